@@ -34,7 +34,7 @@ try-session:
 
 #: make               proves the crates and builds build/lexicat: 32 to 44 minutes the first time
 #:                    on four processors, seconds where nothing changed; HINTS=FILE proves all side by
-#:                    side over the statements of a release, silkwaram-*-statements.tar.zst, in 16
+#:                    side over the statements of a release, silkwaram-*-statements.tar.zst, in 16 to 20
 all: build/lexicat
 
 # Each crate is proved, and only then built. What was proved before is not proved again.

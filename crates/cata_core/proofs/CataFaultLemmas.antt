@@ -1,12 +1,13 @@
 -- By what cells are refused.
 use Rattle.std.specs.Prelude.{◌≡◌}
 use Rattle.cell_core.specs.Keyed.{IsMap}
-use Rattle.cata_core.specs.declared.cata_fault.CataFault.{CataFault}
-use Rattle.cata_core.specs.declared.cata_fault.CataFault.TheVariants.{StampReused, ClockSpent}
-use Rattle.cata_core.specs.declared.cata_fault.CataFault.TheVariants.{NotForMe, NoMemory}
-use Rattle.cata_core.specs.CataFault.{IsRefusal, IsOfCells}
-use Rattle.cata_core.specs.Entries.{key_cmp, Entries, Agree}
-use Rattle.cata_core.proofs.ClashLemmas.{clash_not_agree}
+use Rattle.catalogue.specs.declared.cata_fault.CataFault.{CataFault}
+use Rattle.catalogue.specs.declared.cata_fault.CataFault.TheVariants.{StampReused, ClockSpent}
+use Rattle.catalogue.specs.declared.cata_fault.CataFault.TheVariants.{NotForMe, NoMemory}
+use Rattle.catalogue.specs.CataFault.{IsRefusal, IsOfCells}
+use Rattle.cell_core.specs.Entry.{key_cmp}
+use Rattle.catalogue.specs.Entries.{Entries, Agree}
+use Rattle.catalogue.proofs.ClashLemmas.{clash_not_agree}
 
 -- Cells are refused only for a reused stamp, or for lack of memory.
 pub of_cells : (own other : Entries) (fault : CataFault) → IsRefusal own other fault

@@ -5,7 +5,7 @@ use Rattle.std.specs.Prelude.{◌==◌, slice_get, if◌then◌else◌}
 use Rattle.std.proofs.lemmas.Bool.{eqb-true, eqb-false}
 use Rattle.cata_core.specs.declared.step.Step.{Step}
 use Rattle.cata_core.specs.declared.step.Step.TheVariants.{Tell, Post, Deliver}
-use Rattle.cata_core.specs.Entries.{Entries, joined}
+use Rattle.catalogue.specs.Entries.{Entries, joined}
 use Rattle.cata_core.specs.Delta.{summary_of, delta_of}
 use Rattle.cata_core.specs.Taken.{PostedEdits, Taken, taken_step, taken_after, nothing_taken, taken}
 use Rattle.cata_core.specs.Taken.{edits_in, edits_delivered, tellers_by, post_to}

@@ -7,14 +7,17 @@ use Rattle.cell_core.specs.declared.cell.Cell.{Cell}
 use Rattle.cell_core.specs.declared.stamp.Stamp.{Stamp}
 use Rattle.cell_core.specs.Stamp.{stamp_cmp}
 use Rattle.cell_core.specs.Cell.{AgreeCells, joined_cells, cell_laws}
-use Rattle.cell_core.specs.Keyed.{IsMap, AgreeIfBoth, joined_if_both, joined_maps-IsMap}
-use Rattle.cell_core.specs.Keyed.{find-joined_maps, same_maps, joined_entries, at_of}
-use Rattle.cata_core.specs.Entries.{key_cmp, key_cmp_total, key_cmp_exact, Entry, Entries, Agree}
-use Rattle.cata_core.specs.Entries.{joined}
+use Rattle.cell_core.specs.Keyed.{IsMap, AgreeIfBoth, joined_if_both}
+use Rattle.cell_core.specs.KeyedLaws.{joined_maps-IsMap}
+use Rattle.cell_core.specs.Keyed.{joined_entries}
+use Rattle.cell_core.specs.KeyedLaws.{find-joined_maps, same_maps, at_of}
+use Rattle.cell_core.specs.Entry.{key_cmp, key_cmp_total, key_cmp_exact}
+use Rattle.catalogue.specs.Entries.{Entry, Entries, Agree}
+use Rattle.catalogue.specs.Entries.{joined}
 use Rattle.cata_core.specs.Delta.{Stamps, is_missing, delta_of, HasAtLeast, HasAll}
-use Rattle.cata_core.proofs.Basics.{not_lt}
-use Rattle.cata_core.proofs.StampOrderLemmas.{not_lt_trans}
-use Rattle.cata_core.proofs.FilteredLemmas.{kept_if, filter-IsMap, find-filter}
+use Rattle.catalogue.proofs.Basics.{not_lt}
+use Rattle.catalogue.proofs.StampOrderLemmas.{not_lt_trans}
+use Rattle.catalogue.proofs.FilteredLemmas.{kept_if, filter-IsMap, find-filter}
 
 -- what was not sent changes nothing
 unsent : (own : Option Cell) (known : Option Stamp) (c : Cell)

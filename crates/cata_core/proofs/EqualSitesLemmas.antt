@@ -2,17 +2,17 @@
 use Rattle.std.proofs.Common.{◌≡◌, ℕ, List, sym, ◌∙◌, subst}
 use Rattle.cata_core.specs.declared.step.Step.{Step}
 use Rattle.cata_core.specs.declared.step.Step.TheVariants.{AskFilter, AskLookup, AskCells}
-use Rattle.cata_core.specs.Entries.{Entries}
-use Rattle.cata_core.specs.Edits.{IsConsistent, SameMembers}
+use Rattle.catalogue.specs.Entries.{Entries}
+use Rattle.catalogue.specs.Edits.{IsConsistent, SameMembers}
 use Rattle.cata_core.specs.Taken.{taken, edits_of}
 use Rattle.cata_core.specs.Held.{held}
 use Rattle.cata_core.specs.Answer.{IsAnswered}
 use Rattle.cata_core.specs.Alike.{AnswerAlike}
-use Rattle.cata_core.proofs.CatalogueLemmas.{same_catalogue}
+use Rattle.catalogue.proofs.CatalogueLemmas.{same_catalogue}
 use Rattle.cata_core.proofs.SpreadingLemmas.{only_edits_taken}
-use Rattle.cata_core.proofs.SettlingLemmas.{settled_part}
+use Rattle.catalogue.proofs.SettlingLemmas.{settled_part}
 use Rattle.cata_core.proofs.TakenAndHeldLemmas.{held_is_catalogue}
-use Rattle.cata_core.proofs.UniqueAnswersLemmas.{one_answered}
+use Rattle.cata_core.proofs.AnswerLemmas.{one_answered}
 
 -- Sites that took the same edits, all consistent, have the same cells, even in different runs.
 pub equal_sites : (p q : List Step) (s t : ℕ) → IsConsistent (edits_of p)

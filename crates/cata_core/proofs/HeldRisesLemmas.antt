@@ -4,15 +4,17 @@ use Rattle.std.proofs.Common.{inr, refl, sym, subst}
 use Rattle.std.specs.Prelude.{◌==◌, if◌then◌else◌, slice_get}
 use Rattle.std.specs.FinMap.Entries.{find}
 use Rattle.cell_core.specs.Cell.{joined_cells}
-use Rattle.cell_core.specs.Keyed.{IsMap, joined_maps-IsMap}
+use Rattle.cell_core.specs.Keyed.{IsMap}
+use Rattle.cell_core.specs.KeyedLaws.{joined_maps-IsMap}
 use Rattle.cata_core.specs.declared.step.Step.{Step}
 use Rattle.cata_core.specs.declared.step.Step.TheVariants.{Edit, Merge, Post, Deliver}
-use Rattle.cata_core.specs.Entries.{key_cmp, key_cmp_total, Entry, Entries, joined}
+use Rattle.cell_core.specs.Entry.{key_cmp, key_cmp_total}
+use Rattle.catalogue.specs.Entries.{Entry, Entries, joined}
 use Rattle.cata_core.specs.Delta.{Stamps, is_missing, summary_of, HasAll}
 use Rattle.cata_core.specs.Held.{ToldStamps, PostedCells, Held, cells_delivered, cells_in, joins}
 use Rattle.cata_core.specs.Held.{delta_to, cells_posted, held_step, nothing_held, held_after, held}
-use Rattle.cata_core.proofs.MembersLemmas.{In, in_append_cases}
-use Rattle.cata_core.proofs.FilteredLemmas.{filter-IsMap}
+use Rattle.catalogue.proofs.MembersLemmas.{In, in_append_cases}
+use Rattle.catalogue.proofs.FilteredLemmas.{filter-IsMap}
 use Rattle.cata_core.proofs.SpreadingLemmas.{get_in}
 use Rattle.cata_core.proofs.SummaryLemmas.{has_own, has_joined}
 

@@ -6,9 +6,10 @@ use Rattle.cell_core.specs.Cell.{AgreeCells, joined_cells, cell_laws}
 use Rattle.cell_core.specs.Join.{IsBelow}
 use Rattle.cell_core.specs.Later.{IsEitherOf}
 use Rattle.cell_core.specs.Keyed.{IsMap, AgreeIfBoth, joined_if_both, BetweenIfBoth}
-use Rattle.cell_core.specs.Keyed.{find-joined_maps}
-use Rattle.cata_core.specs.Entries.{key_cmp, key_cmp_total, Entries, Agree, joined, Between}
-use Rattle.cata_core.specs.Entries.{catalogue_laws}
+use Rattle.cell_core.specs.KeyedLaws.{find-joined_maps}
+use Rattle.cell_core.specs.Entry.{key_cmp, key_cmp_total}
+use Rattle.catalogue.specs.Entries.{Entries, Agree, joined, Between}
+use Rattle.catalogue.specs.Entries.{catalogue_laws}
 
 -- The second of two catalogues that agree agrees with their join.
 pub agrees_with_join : (a b : Entries) → Agree a b → Agree b (joined a b)

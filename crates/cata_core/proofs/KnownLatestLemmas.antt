@@ -5,10 +5,10 @@ use Rattle.cell_core.specs.Cell.{joined_stamps}
 use Rattle.cell_core.specs.Keyed.{joined_if_both}
 use Rattle.cata_core.specs.declared.latest.Latest.{Latest}
 use Rattle.cata_core.specs.declared.latest.Latest.TheVariants.{Known, Unknown}
-use Rattle.cata_core.specs.Entries.{Entries, Agree, joined}
+use Rattle.catalogue.specs.Entries.{Entries, Agree, joined}
 use Rattle.cata_core.specs.KnownLatest.{IsKnownLatest, known_with}
-use Rattle.cata_core.specs.Latest.{latest_of}
-use Rattle.cata_core.proofs.JoinedLatestLemmas.{latest_joined}
+use Rattle.catalogue.specs.Latest.{latest_of}
+use Rattle.catalogue.proofs.JoinedLatestLemmas.{latest_joined}
 
 -- What is known of a catalogue, with the latest stamp of another, is true of the join of both.
 pub known_joined : (l : Latest) (own other new : Entries) (s : Option Stamp) → IsKnownLatest l own

@@ -7,13 +7,15 @@ use Rattle.std.specs.FinMap.Entries.{find}
 use Rattle.cell_core.specs.declared.cell.Cell.{Cell}
 use Rattle.cell_core.specs.Stamp.{stamp_cmp}
 use Rattle.cell_core.specs.Cell.{joined_cells, cell_laws}
-use Rattle.cell_core.specs.Keyed.{IsMap, joined_if_both, joined_maps-IsMap, find-joined_maps}
-use Rattle.cell_core.specs.Keyed.{same_maps, also_map}
-use Rattle.cata_core.specs.Entries.{EntryKey, key_cmp, key_cmp_total, key_cmp_exact, Entry, Entries}
-use Rattle.cata_core.specs.Entries.{Agree, joined, IsBelowCells, catalogue_laws}
+use Rattle.cell_core.specs.Keyed.{IsMap, joined_if_both}
+use Rattle.cell_core.specs.KeyedLaws.{joined_maps-IsMap, find-joined_maps}
+use Rattle.cell_core.specs.KeyedLaws.{same_maps, also_map}
+use Rattle.cell_core.specs.Entry.{EntryKey, key_cmp, key_cmp_total, key_cmp_exact}
+use Rattle.catalogue.specs.Entries.{Entry, Entries}
+use Rattle.catalogue.specs.Entries.{Agree, joined, IsBelowCells, catalogue_laws}
 use Rattle.cata_core.specs.Delta.{summary_of, is_missing, delta_of, IsPart}
-use Rattle.cata_core.proofs.StampOrderLemmas.{lt_self}
-use Rattle.cata_core.proofs.FilteredLemmas.{kept_if, filter-IsMap, find-filter}
+use Rattle.catalogue.proofs.StampOrderLemmas.{lt_self}
+use Rattle.catalogue.proofs.FilteredLemmas.{kept_if, filter-IsMap, find-filter}
 use Rattle.cata_core.proofs.DeltaLemmas.{nothing_lost}
 use Rattle.cata_core.proofs.SummaryLemmas.{stamp_if, find-summary_of, has_own}
 

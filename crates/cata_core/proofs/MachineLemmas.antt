@@ -6,7 +6,7 @@ use Rattle.cata_core.specs.declared.step.Step.{Step}
 use Rattle.cata_core.specs.declared.play_fault.PlayFault.{PlayFault}
 use Rattle.cata_core.specs.declared.play_fault.PlayFault.TheVariants.{NoMemory}
 use Rattle.cata_core.specs.declared.answer.Answer.{Answer}
-use Rattle.cata_core.specs.Edits.{catalogue_of}
+use Rattle.catalogue.specs.Edits.{catalogue_of}
 use Rattle.cata_core.specs.Taken.{Taken, taken_step, taken_after, nothing_taken, taken}
 use Rattle.cata_core.specs.Held.{Held, held_step, held_after, nothing_held, held}
 use Rattle.cata_core.specs.Answer.{IsAnswered, AreAnswersBy, AreHeldAnswers, AreAnswers}

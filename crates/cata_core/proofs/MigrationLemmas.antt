@@ -3,13 +3,15 @@ use Rattle.std.proofs.Common.{◌≡◌, Option, Some, None, inl, inr, subst}
 use Rattle.std.specs.Prelude.{◌↔◌}
 use Rattle.std.specs.FinMap.Entries.{find}
 use Rattle.cell_core.specs.Cell.{AgreeCells, joined_cells, cell_laws}
-use Rattle.cell_core.specs.Keyed.{AgreeIfBoth, at_of}
+use Rattle.cell_core.specs.Keyed.{AgreeIfBoth}
+use Rattle.cell_core.specs.KeyedLaws.{at_of}
 use Rattle.cell_core.specs.Migration.{IsOldStamp, OldCell, AgreeOldCells, joined_old_cells}
 use Rattle.cell_core.specs.Migration.{migrated_cell, KeepsJoins}
 use Rattle.cell_core.proofs.MigrationLemmas.{keeps_cell_joins}
-use Rattle.cata_core.specs.Entries.{EntryKey, key_cmp, key_cmp_total, key_cmp_exact, Agree, joined}
+use Rattle.cell_core.specs.Entry.{EntryKey, key_cmp, key_cmp_total, key_cmp_exact}
+use Rattle.catalogue.specs.Entries.{Agree, joined}
 use Rattle.cata_core.specs.Migration.{OldEntries, IsOldMap, AgreeOld, joined_old, migrated_entries}
-use Rattle.cata_core.proofs.MappedLemmas.{mapped-IsMap, mapped_joined, mapped_agree}
+use Rattle.catalogue.proofs.MappedLemmas.{mapped-IsMap, mapped_joined, mapped_agree}
 
 abbrev HasOldStamp : OldCell → Type 0
 HasOldStamp c = IsOldStamp c.stamp

@@ -6,12 +6,13 @@ use Rattle.std.specs.Ordering.{is_lt}
 use Rattle.std.specs.FinMap.Entries.{find, is_sorted, below_all}
 use Rattle.cell_core.specs.declared.cell.Cell.{Cell}
 use Rattle.cell_core.specs.Keyed.{IsMap}
-use Rattle.cata_core.specs.Entries.{EntryKey, key_cmp, Entries, IsAboveAll}
+use Rattle.cell_core.specs.Entry.{EntryKey, key_cmp}
+use Rattle.catalogue.specs.Entries.{Entries, IsAboveAll}
 use Rattle.cata_core.specs.Delta.{Stamps, is_missing, delta_of}
 use Rattle.cata_core.specs.Seeking.{IsBehind}
-use Rattle.cata_core.proofs.Basics.{first_part, second_part, less_than}
-use Rattle.cata_core.proofs.FilteredLemmas.{filter-IsMap}
-use Rattle.cata_core.proofs.BehindLemmas.{front_below}
+use Rattle.catalogue.proofs.FilteredLemmas.{filter-IsMap}
+use Rattle.catalogue.proofs.BehindLemmas.{front_below}
+use Rattle.cell_core.proofs.Basics.{first_part, second_part, less_than}
 use Rattle.cata_core.proofs.SummaryListsLemmas.{less_from, not_greater}
 
 -- the key is not smaller than the first

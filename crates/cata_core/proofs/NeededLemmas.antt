@@ -8,16 +8,17 @@ use Rattle.cell_core.specs.declared.stamp.Stamp.{Stamp}
 use Rattle.cell_core.specs.Stamp.{stamp_cmp}
 use Rattle.cata_core.specs.declared.step.Step.{Step}
 use Rattle.cata_core.specs.declared.step.Step.TheVariants.{Edit, Tell, Post, Deliver}
-use Rattle.cata_core.specs.Entries.{EntryKey, key_cmp, Entry, Entries, Agree, joined}
-use Rattle.cata_core.specs.Edits.{IsBest, IsSettled, IsConsistent, SameMembers, catalogue_of}
+use Rattle.cell_core.specs.Entry.{EntryKey, key_cmp}
+use Rattle.catalogue.specs.Entries.{Entry, Entries, Agree, joined}
+use Rattle.catalogue.specs.Edits.{IsBest, IsSettled, IsConsistent, SameMembers, catalogue_of}
 use Rattle.cata_core.specs.Delta.{Stamps, summary_of, delta_of}
 use Rattle.cata_core.specs.Taken.{taken}
 use Rattle.cata_core.specs.Held.{held, nothing_held}
 use Rattle.cata_core.specs.PlayFault.{NoneFaulty}
-use Rattle.cata_core.proofs.Basics.{some_same}
-use Rattle.cata_core.proofs.MembersLemmas.{In, in_from_Contains, Contains-from_in}
-use Rattle.cata_core.proofs.StampOrderLemmas.{not_less_self}
-use Rattle.cata_core.proofs.ApplyLemmas.{with_none}
+use Rattle.catalogue.proofs.Basics.{some_same}
+use Rattle.catalogue.proofs.MembersLemmas.{In, in_from_Contains, Contains-from_in}
+use Rattle.catalogue.proofs.StampOrderLemmas.{not_less_self}
+use Rattle.catalogue.proofs.ApplyLemmas.{with_none}
 use Rattle.cata_core.proofs.MachineLemmas.{AllSound, none_faulty}
 
 abbrev key : EntryKey

@@ -8,16 +8,17 @@ use Rattle.cell_core.specs.declared.cell.Cell.{Cell}
 use Rattle.cell_core.specs.Stamp.{stamp_cmp, IsAbove}
 use Rattle.cell_core.specs.Join.{IsBelow}
 use Rattle.cell_core.specs.Keyed.{IsMap}
-use Rattle.cata_core.specs.Entries.{EntryKey, key_cmp, Entry, Entries, Agree, joined, IsBelowCells}
-use Rattle.cata_core.specs.Entries.{catalogue_laws}
-use Rattle.cata_core.specs.Edits.{catalogue_of, IsSettled}
-use Rattle.cata_core.specs.Latest.{latest_of}
-use Rattle.cata_core.proofs.ApplyLemmas.{agree_some, agree_none, joined_new, joined_later}
-use Rattle.cata_core.proofs.CatalogueLemmas.{catalogue_of-IsMap}
-use Rattle.cata_core.proofs.CatalogueJoinsLemmas.{joined_catalogue}
-use Rattle.cata_core.proofs.LatestLemmas.{held_less}
-use Rattle.cata_core.proofs.SettlingLemmas.{settled_if_agree, settled_one, catalogue_of-one}
-use Rattle.cata_core.proofs.StampOrderLemmas.{not_less_self}
+use Rattle.cell_core.specs.Entry.{EntryKey, key_cmp}
+use Rattle.catalogue.specs.Entries.{Entry, Entries, Agree, joined, IsBelowCells}
+use Rattle.catalogue.specs.Entries.{catalogue_laws}
+use Rattle.catalogue.specs.Edits.{catalogue_of, IsSettled}
+use Rattle.catalogue.specs.Latest.{latest_of}
+use Rattle.catalogue.proofs.ApplyLemmas.{agree_some, agree_none, joined_new, joined_later}
+use Rattle.catalogue.proofs.CatalogueLemmas.{catalogue_of-IsMap}
+use Rattle.catalogue.proofs.CatalogueJoinsLemmas.{joined_catalogue}
+use Rattle.catalogue.proofs.LatestLemmas.{held_less}
+use Rattle.catalogue.proofs.SettlingLemmas.{settled_if_agree, settled_one, catalogue_of-one}
+use Rattle.catalogue.proofs.StampOrderLemmas.{not_less_self}
 
 module _ (es : Entries) (key : EntryKey) (cell : Cell) (m : IsMap key_cmp es)
     (above : IsAbove (latest_of es) cell.stamp) where

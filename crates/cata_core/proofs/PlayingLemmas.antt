@@ -6,13 +6,13 @@ use Rattle.cata_core.specs.declared.step.Step.{Step}
 use Rattle.cata_core.specs.declared.answer.Answer.{Answer}
 use Rattle.cata_core.specs.declared.play_fault.PlayFault.{PlayFault}
 use Rattle.cata_core.specs.declared.runs.world.World.{World}
-use Rattle.cata_core.specs.Edits.{IsConsistent}
+use Rattle.catalogue.specs.Edits.{IsConsistent}
 use Rattle.cata_core.specs.Taken.{edits_of}
 use Rattle.cata_core.specs.Held.{nothing_held}
 use Rattle.cata_core.specs.Answer.{AreHeldAnswers, AreAnswers}
 use Rattle.cata_core.specs.PlayFault.{IsSound, IsFaultOf, NoneFaulty, NoDelivers}
 use Rattle.cata_core.specs.World.{held_in, IsRunning, IsStepped}
-use Rattle.cata_core.proofs.Basics.{append_nil}
+use Rattle.catalogue.proofs.Basics.{append_nil}
 use Rattle.cata_core.proofs.MachineLemmas.{AllSound, FaultFrom, HeldAnswersFrom, held_answers}
 use Rattle.cata_core.proofs.MachineLemmas.{none_faulty}
 use Rattle.cata_core.proofs.TakenAndHeldLemmas.{consistent_answers}

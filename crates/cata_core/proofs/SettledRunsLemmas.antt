@@ -6,18 +6,18 @@ use Rattle.std.proofs.lemmas.Bool.{eqb-true}
 use Rattle.cata_core.specs.declared.step.Step.{Step}
 use Rattle.cata_core.specs.declared.step.Step.TheVariants.{Edit, Merge, Deliver}
 use Rattle.cata_core.specs.declared.answer.Answer.{Answer}
-use Rattle.cata_core.specs.Entries.{Entry, Entries, Agree, joined}
-use Rattle.cata_core.specs.Edits.{catalogue_of, IsSettled}
+use Rattle.catalogue.specs.Entries.{Entry, Entries, Agree, joined}
+use Rattle.catalogue.specs.Edits.{catalogue_of, IsSettled}
 use Rattle.cata_core.specs.Taken.{Taken, edits_in, takes, taken_step, nothing_taken, taken_after}
 use Rattle.cata_core.specs.Taken.{taken}
 use Rattle.cata_core.specs.Held.{Held, cells_in, joins, held_step, nothing_held, held_after, held}
 use Rattle.cata_core.specs.Answer.{AreAnswers}
 use Rattle.cata_core.specs.PlayFault.{AgreesWith, NoneFaulty, IsNoDeliver, NoDelivers, Clashes}
 use Rattle.cata_core.specs.PlayFault.{Unsettles}
-use Rattle.cata_core.proofs.CatalogueJoinsLemmas.{joined_catalogue}
-use Rattle.cata_core.proofs.SettlingLemmas.{settled_if_agree, agree_if_settled, settled_one}
-use Rattle.cata_core.proofs.SettlingLemmas.{settled_none}
-use Rattle.cata_core.proofs.SettlingLemmas.{catalogue_of-one}
+use Rattle.catalogue.proofs.CatalogueJoinsLemmas.{joined_catalogue}
+use Rattle.catalogue.proofs.SettlingLemmas.{settled_if_agree, agree_if_settled, settled_one}
+use Rattle.catalogue.proofs.SettlingLemmas.{settled_none}
+use Rattle.catalogue.proofs.SettlingLemmas.{catalogue_of-one}
 use Rattle.cata_core.proofs.MachineLemmas.{AllSound, all_sound, HeldAnswersFrom, TakenAnswersFrom}
 use Rattle.cata_core.proofs.MachineLemmas.{taken_one_more, taken_answers}
 use Rattle.cata_core.proofs.TakesLemmas.{takes_here}

@@ -5,19 +5,19 @@ use Rattle.std.specs.Prelude.{◌==◌, if◌then◌else◌, slice_get, Contains
 use Rattle.std.proofs.lemmas.Bool.{eqb-true, eqb-false}
 use Rattle.cata_core.specs.declared.step.Step.{Step}
 use Rattle.cata_core.specs.declared.step.Step.TheVariants.{Edit, Merge, Post, Deliver}
-use Rattle.cata_core.specs.Entries.{Entry}
-use Rattle.cata_core.specs.Edits.{catalogue_of, IsConsistent}
+use Rattle.catalogue.specs.Entries.{Entry}
+use Rattle.catalogue.specs.Edits.{catalogue_of, IsConsistent}
 use Rattle.cata_core.specs.Delta.{summary_of, IsBelowStamps}
 use Rattle.cata_core.specs.Taken.{PostedEdits, Taken, edits_delivered, edits_in, takes, post_to}
 use Rattle.cata_core.specs.Taken.{edits_posted, taken_step, nothing_taken, taken_after, taken}
 use Rattle.cata_core.specs.Taken.{edits_by, edits_of}
 use Rattle.cata_core.specs.PlayFault.{NamesSites}
 use Rattle.cata_core.specs.Spreads.{IsEditAt, NoEditAt, IsMerged, IsDelivered, AllReached}
-use Rattle.cata_core.proofs.MembersLemmas.{In, in_from_Contains, Contains-from_in, in_append_right}
-use Rattle.cata_core.proofs.MembersLemmas.{in_append_cases}
-use Rattle.cata_core.proofs.CatalogueLemmas.{same_catalogue}
+use Rattle.catalogue.proofs.MembersLemmas.{In, in_from_Contains, Contains-from_in, in_append_right}
+use Rattle.catalogue.proofs.MembersLemmas.{in_append_cases}
+use Rattle.catalogue.proofs.CatalogueLemmas.{same_catalogue}
 use Rattle.cata_core.proofs.SummaryLemmas.{summary_rises}
-use Rattle.cata_core.proofs.SettlingLemmas.{settled_part}
+use Rattle.catalogue.proofs.SettlingLemmas.{settled_part}
 use Rattle.cata_core.proofs.TakesLemmas.{grows, takes_here}
 
 -- Two lists of steps in sequence take what the second takes from the end of the first.

@@ -10,19 +10,21 @@ use Rattle.cell_core.specs.declared.stamp.Stamp.{Stamp}
 use Rattle.cell_core.specs.Stamp.{stamp_cmp}
 use Rattle.cell_core.specs.Cell.{AgreeStamps, joined_stamps, joined_cells}
 use Rattle.cell_core.specs.Keyed.{IsMap, AgreeIfBoth, joined_maps, joined_if_both}
-use Rattle.cell_core.specs.Keyed.{joined_maps-IsMap}
-use Rattle.cell_core.specs.Keyed.{find-joined_maps, same_maps}
-use Rattle.cata_core.specs.Entries.{EntryKey, key_cmp, key_cmp_total, key_cmp_exact, Entry, Entries}
-use Rattle.cata_core.specs.Entries.{joined, IsBelowCells}
-use Rattle.cata_core.specs.Edits.{catalogue_of}
+use Rattle.cell_core.specs.KeyedLaws.{joined_maps-IsMap}
+use Rattle.cell_core.specs.KeyedLaws.{find-joined_maps, same_maps}
+use Rattle.cell_core.specs.Entry.{EntryKey, key_cmp, key_cmp_total, key_cmp_exact}
+use Rattle.catalogue.specs.Entries.{Entry, Entries}
+use Rattle.catalogue.specs.Entries.{joined, IsBelowCells}
+use Rattle.catalogue.specs.Edits.{catalogue_of}
 use Rattle.cata_core.specs.Delta.{Stamps, summary_of, HasAll, HasAtLeast, IsBelowStamps}
-use Rattle.cata_core.proofs.Basics.{less_of, not_less_of}
-use Rattle.cata_core.proofs.StampOrderLemmas.{not_less_self, not_less_back, not_less_trans}
-use Rattle.cata_core.proofs.StampOrderLemmas.{same_stamp}
-use Rattle.cata_core.proofs.MembersLemmas.{In, Contains-from_in}
-use Rattle.cata_core.proofs.BestLemmas.{best_in}
-use Rattle.cata_core.proofs.MappedLemmas.{mapped-IsMap, find-mapped}
-use Rattle.cata_core.proofs.CatalogueLemmas.{catalogue_of-IsMap, found_best, has_cell}
+use Rattle.catalogue.proofs.Basics.{not_less_of}
+use Rattle.catalogue.proofs.StampOrderLemmas.{not_less_self, not_less_back, not_less_trans}
+use Rattle.catalogue.proofs.StampOrderLemmas.{same_stamp}
+use Rattle.catalogue.proofs.MembersLemmas.{In, Contains-from_in}
+use Rattle.catalogue.proofs.BestLemmas.{best_in}
+use Rattle.catalogue.proofs.MappedLemmas.{mapped-IsMap, find-mapped}
+use Rattle.catalogue.proofs.CatalogueLemmas.{catalogue_of-IsMap, found_best, has_cell}
+use Rattle.lang_core.proofs.Basics.{less_of}
 
 -- The keys of a catalogue's summary strictly ascend.
 pub summary-IsMap : (es : Entries) → IsMap key_cmp es → IsMap key_cmp (summary_of es)

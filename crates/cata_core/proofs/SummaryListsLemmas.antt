@@ -10,11 +10,11 @@ use Rattle.std.specs.Cmp.{tied_itself}
 use Rattle.std.specs.FinMap.Entries.{find, is_sorted, below_all}
 use Rattle.cell_core.specs.Keyed.{IsMap}
 use Rattle.cata_core.specs.declared.summary.SummaryEntry.{SummaryEntry}
-use Rattle.cata_core.specs.Entries.{EntryKey, key_cmp, key_cmp_total, key_cmp_exact}
+use Rattle.cell_core.specs.Entry.{EntryKey, key_cmp, key_cmp_total, key_cmp_exact}
 use Rattle.cata_core.specs.Summary.{stamps_of}
-use Rattle.cata_core.proofs.Basics.{first_part, both_parts}
-use Rattle.cata_core.proofs.FilteredLemmas.{find-below}
-use Rattle.cata_core.proofs.KeyPlacesLemmas.{below_lesser}
+use Rattle.catalogue.proofs.FilteredLemmas.{find-below}
+use Rattle.catalogue.proofs.KeyPlacesLemmas.{below_lesser}
+use Rattle.cell_core.proofs.Basics.{first_part, both_parts}
 
 -- An entry pushed to a summary adds its key and stamp to the summary's.
 pub entries_push : (entries : List SummaryEntry) (t : SummaryEntry)

@@ -14,8 +14,9 @@ use Rattle.cata_core.specs.declared.answer.Answer.{Answer}
 use Rattle.cata_core.specs.declared.play_fault.PlayFault.{PlayFault}
 use Rattle.cata_core.specs.declared.play_fault.PlayFault.TheVariants.{NoSuchSite, NoSuchPost}
 use Rattle.cata_core.specs.declared.play_fault.PlayFault.TheVariants.{StampReused, NoMemory}
-use Rattle.cata_core.specs.Entries.{EntryKey, key_cmp, Entry, Entries, Agree, joined}
-use Rattle.cata_core.specs.Edits.{catalogue_of, IsConsistent}
+use Rattle.cell_core.specs.Entry.{EntryKey, key_cmp}
+use Rattle.catalogue.specs.Entries.{Entry, Entries, Agree, joined}
+use Rattle.catalogue.specs.Edits.{catalogue_of, IsConsistent}
 use Rattle.cata_core.specs.Delta.{summary_of, delta_of}
 use Rattle.cata_core.specs.Taken.{PostedEdits, Taken, edits_delivered, edits_in, takes, tellers_by}
 use Rattle.cata_core.specs.Taken.{post_to, edits_posted, taken_step, nothing_taken, taken_after}
@@ -24,15 +25,15 @@ use Rattle.cata_core.specs.Held.{ToldStamps, PostedCells, Held, cells_delivered,
 use Rattle.cata_core.specs.Held.{told_by, delta_to, cells_posted, held_step, nothing_held}
 use Rattle.cata_core.specs.Held.{held_after, held}
 use Rattle.cata_core.specs.Answer.{IsAnswered, AreAnswers}
-use Rattle.cata_core.specs.Clash.{IsFirstClash}
+use Rattle.catalogue.specs.Clash.{IsFirstClash}
 use Rattle.cata_core.specs.PlayFault.{IsFaultOf, IsNoClash}
-use Rattle.cata_core.proofs.MembersLemmas.{In, in_append_left, in_append_right, in_append_cases}
-use Rattle.cata_core.proofs.MembersLemmas.{Contains-from_in}
-use Rattle.cata_core.proofs.BestLemmas.{best_in}
-use Rattle.cata_core.proofs.CatalogueLemmas.{catalogue_of-IsMap, found_best}
-use Rattle.cata_core.proofs.CatalogueJoinsLemmas.{joined_catalogue}
-use Rattle.cata_core.proofs.SettlingLemmas.{settled_part, catalogue_of-one}
-use Rattle.cata_core.proofs.ClashLemmas.{clash_not_agree}
+use Rattle.catalogue.proofs.MembersLemmas.{In, in_append_left, in_append_right, in_append_cases}
+use Rattle.catalogue.proofs.MembersLemmas.{Contains-from_in}
+use Rattle.catalogue.proofs.BestLemmas.{best_in}
+use Rattle.catalogue.proofs.CatalogueLemmas.{catalogue_of-IsMap, found_best}
+use Rattle.catalogue.proofs.CatalogueJoinsLemmas.{joined_catalogue}
+use Rattle.catalogue.proofs.SettlingLemmas.{settled_part, catalogue_of-one}
+use Rattle.catalogue.proofs.ClashLemmas.{clash_not_agree}
 use Rattle.cata_core.proofs.DeltaLemmas.{nothing_lost, part_agrees}
 use Rattle.cata_core.proofs.SummaryLemmas.{has_told}
 use Rattle.cata_core.proofs.TakesLemmas.{grows}

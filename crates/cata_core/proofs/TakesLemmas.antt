@@ -2,9 +2,9 @@
 use Rattle.std.proofs.Common.{◌≡◌, ℕ, true, false, List, ◌++◌, Option, Some, None, refl}
 use Rattle.std.specs.Prelude.{◌==◌, if◌then◌else◌}
 use Rattle.std.proofs.lemmas.Bool.{eqb-false}
-use Rattle.cata_core.specs.Entries.{Entry}
+use Rattle.catalogue.specs.Entries.{Entry}
 use Rattle.cata_core.specs.Taken.{Taken, takes}
-use Rattle.cata_core.proofs.MembersLemmas.{In, in_append_left}
+use Rattle.catalogue.proofs.MembersLemmas.{In, in_append_left}
 
 -- what a site took stays
 pub grows : (of : ℕ → List Entry) (d : Option (ℕ × List Entry)) (s : ℕ) (f : Entry) → In (of s) f

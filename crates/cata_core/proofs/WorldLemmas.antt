@@ -1,7 +1,7 @@
 -- How a run goes on by one step.
-use Rattle.std.proofs.Common.{◌≡◌, ℕ, zero, suc, ◌<◌, true, false, List, [], ◌∷◌, ◌++◌, Some, None}
-use Rattle.std.proofs.Common.{length, get_or, refl, sym, ap, ◌∙◌, subst, arith, Ok, Err}
-use Rattle.std.specs.Prelude.{◌==◌, if◌then◌else◌, slice_get, slice_set, IsSomeAnd, All, OnOk}
+use Rattle.std.proofs.Common.{◌≡◌, ℕ, zero, suc, ◌<◌, true, false, List, [], ◌∷◌, ◌++◌, Some}
+use Rattle.std.proofs.Common.{length, get_or, refl, sym, ap, ◌∙◌, subst, Ok, Err}
+use Rattle.std.specs.Prelude.{◌==◌, if◌then◌else◌, slice_set, IsSomeAnd, All, OnOk}
 use Rattle.std.specs.declared.result.Result.{Result}
 use Rattle.std.proofs.lemmas.Bool.{eqb-true, eqb-false}
 use Rattle.std.proofs.lemmas.Grind.{get_or-set_at}
@@ -12,14 +12,16 @@ use Rattle.cata_core.specs.declared.step.Step.TheVariants.{Merge, Tell, Deliver,
 use Rattle.cata_core.specs.declared.play_fault.PlayFault.{PlayFault}
 use Rattle.cata_core.specs.declared.play_fault.PlayFault.TheVariants.{NoSuchSite, NoSuchPost}
 use Rattle.cata_core.specs.declared.play_fault.PlayFault.TheVariants.{StampReused, NoMemory}
-use Rattle.cata_core.specs.Entries.{key_cmp, Entries, Agree, joined, catalogue_laws}
-use Rattle.cata_core.specs.Clash.{IsFirstClash}
+use Rattle.cell_core.specs.Entry.{key_cmp}
+use Rattle.catalogue.specs.Entries.{Entries, Agree, joined, catalogue_laws}
+use Rattle.catalogue.specs.Clash.{IsFirstClash}
 use Rattle.cata_core.specs.Delta.{summary_of, delta_of}
 use Rattle.cata_core.specs.Held.{ToldStamps, PostedCells, Held, joins, held_step, cells_in}
 use Rattle.cata_core.specs.Held.{cells_delivered, delta_to}
 use Rattle.cata_core.specs.PlayFault.{IsSound, AgreesWith, IsFaultOf}
 use Rattle.cata_core.specs.World.{at_sites, IsClashAt}
-use Rattle.cata_core.proofs.Basics.{append_nil}
+use Rattle.catalogue.proofs.Basics.{append_nil}
+use Rattle.list_core.proofs.Basics.{stands_at as got}
 
 -- Where no site has cells, none has after one more without cells.
 pub one_more_empty : (xs : List Entries) → at_sites xs ≡ (λ _. [])
@@ -99,19 +101,6 @@ merged xs told posts i j gap own theirs lt t e = λ k. record {
   told = sym (append_nil told) k;
   posts = sym (append_nil posts) k;
 }
-
--- An element read within a list is the one at that place.
-pub got : {X : Type 0} (xs : List X) (i : ℕ) (x : X) → i < length xs → x ≡ get_or xs i x
-    → slice_get xs i ≡ Some x
-got [] i x lt e = absurd (omega (arith, lt))
-got (y ∷ ys) zero x lt e = ap Some (sym e)
-got (y ∷ ys) (suc i) x lt e = got ys i x (omega (arith, lt)) e
-
--- Each place within a list has an element.
-pub there : {X : Type 0} (xs : List X) (i : ℕ) → i < length xs → slice_get xs i ≡ None → ⊥
-there [] i lt e = omega (arith, lt)
-there (x ∷ xs) zero lt e = cc
-there (x ∷ xs) (suc i) lt e = there xs i (omega (arith, lt)) e
 
 -- A delivery brings the cells of its post to the post's addressee.
 pub comes_by : (w : Held) (k : ℕ) (p : PostedCells) → k < length w.posts → p ≡ get_or w.posts k p

@@ -1,10 +1,10 @@
 -- Sites that answer the questions of a run alike.
 use Rattle.std.specs.Prelude.{◌≡◌, ℕ, List, Option}
-use Rattle.nego_core.specs.Item.{Item}
-use Rattle.nego_core.specs.declared.scheme.Scheme.{Scheme}
+use Rattle.list_core.specs.Item.{Item}
+use Rattle.list_core.specs.declared.scheme.Scheme.{Scheme}
 use Rattle.cata_core.specs.declared.step.Step.TheVariants.{AskFilter, AskLookup, AskCells}
 use Rattle.cata_core.specs.declared.answer.Answer.{Answer}
-use Rattle.cata_core.specs.Entries.{Entries}
+use Rattle.catalogue.specs.Entries.{Entries}
 use Rattle.cata_core.specs.Answer.{IsAnswered}
 
 -- whatever is answered to a question at the one site, and to the same question at the other, is the

@@ -4,10 +4,10 @@ use Rattle.cata_core.specs.declared.step.Step.{Step}
 use Rattle.cata_core.specs.declared.step.Step.TheVariants.{AskFilter, AskLookup, AskCells}
 use Rattle.cata_core.specs.declared.answer.Answer.{Answer}
 use Rattle.cata_core.specs.declared.answer.Answer.TheVariants.{Filter, Lookup, Cells}
-use Rattle.cata_core.specs.declared.reply.Reply.{Reply}
-use Rattle.cata_core.specs.Entries.{Entries}
-use Rattle.cata_core.specs.Asking.{Weighed, IsFilterAnswer, IsLookupAnswer}
-use Rattle.cata_core.specs.Edits.{catalogue_of}
+use Rattle.catalogue.specs.declared.reply.Reply.{Reply}
+use Rattle.catalogue.specs.Entries.{Entries}
+use Rattle.catalogue.specs.Asking.{Weighed, IsFilterAnswer, IsLookupAnswer}
+use Rattle.catalogue.specs.Edits.{catalogue_of}
 use Rattle.cata_core.specs.Taken.{taken}
 use Rattle.cata_core.specs.Held.{held}
 

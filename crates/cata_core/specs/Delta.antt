@@ -9,7 +9,8 @@ use Rattle.cell_core.specs.Stamp.{stamp_cmp}
 use Rattle.cell_core.specs.Join.{IsBelow}
 use Rattle.cell_core.specs.Cell.{AgreeStamps, joined_stamps}
 use Rattle.cell_core.specs.Keyed.{IsMap, AgreeMaps, joined_maps}
-use Rattle.cata_core.specs.Entries.{EntryKey, key_cmp, Entries}
+use Rattle.cell_core.specs.Entry.{EntryKey, key_cmp}
+use Rattle.catalogue.specs.Entries.{Entries}
 
 -- stamps by keys that ascend
 abbrev pub Stamps : Type 0

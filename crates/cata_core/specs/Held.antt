@@ -3,7 +3,7 @@ use Rattle.std.specs.Prelude.{ℕ, List, [], ◌∷◌, ◌++◌, Option, Some, 
 use Rattle.std.specs.Prelude.{slice_get}
 use Rattle.cata_core.specs.declared.step.Step.{Step}
 use Rattle.cata_core.specs.declared.step.Step.TheVariants.{Edit, Merge, Tell, Post, Deliver}
-use Rattle.cata_core.specs.Entries.{Entries, joined}
+use Rattle.catalogue.specs.Entries.{Entries, joined}
 use Rattle.cata_core.specs.Delta.{Stamps, summary_of, delta_of}
 
 -- a summary that was told: who told it, and its stamps

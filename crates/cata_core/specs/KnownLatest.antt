@@ -5,8 +5,8 @@ use Rattle.cell_core.specs.Cell.{joined_stamps}
 use Rattle.cell_core.specs.Keyed.{joined_if_both}
 use Rattle.cata_core.specs.declared.latest.Latest.{Latest}
 use Rattle.cata_core.specs.declared.latest.Latest.TheVariants.{Known, Unknown}
-use Rattle.cata_core.specs.Entries.{Entries}
-use Rattle.cata_core.specs.Latest.{latest_of}
+use Rattle.catalogue.specs.Entries.{Entries}
+use Rattle.catalogue.specs.Latest.{latest_of}
 
 -- what is known is true: the latest stamp of the cells is this one, or nothing is known
 abbrev pub IsKnownLatest : Latest → Entries → Type 0

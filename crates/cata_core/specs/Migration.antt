@@ -7,7 +7,8 @@ use Rattle.cell_core.specs.SiteName.{padded_name}
 use Rattle.cell_core.specs.Migration.{OldStamp, IsOldStamp, OldCell, AgreeOldCells}
 use Rattle.cell_core.specs.Migration.{joined_old_cells, migrated_stamp, migrated_cell}
 use Rattle.cata_core.specs.declared.delta.Delta.{Delta}
-use Rattle.cata_core.specs.Entries.{EntryKey, key_cmp, Entry, Entries}
+use Rattle.cell_core.specs.Entry.{EntryKey, key_cmp}
+use Rattle.catalogue.specs.Entries.{Entry, Entries}
 use Rattle.cata_core.specs.Delta.{Stamps}
 use Rattle.cata_core.specs.Site.{SiteState}
 use Rattle.cata_core.specs.Summary.{SummaryState}

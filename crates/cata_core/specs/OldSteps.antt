@@ -1,8 +1,8 @@
 -- Steps whose edits have stamps of numbered sites, as documents of version 1 have them, and what
 -- they become (project rules).
 use Rattle.std.specs.Prelude.{ℕ, List, Option, map}
-use Rattle.nego_core.specs.Item.{Item}
-use Rattle.nego_core.specs.declared.scheme.Scheme.{Scheme}
+use Rattle.list_core.specs.Item.{Item}
+use Rattle.list_core.specs.declared.scheme.Scheme.{Scheme}
 use Rattle.cata_core.specs.declared.step.Step.{Step}
 use Rattle.cata_core.specs.declared.step.Step.TheVariants.{Edit, Merge, AskFilter, AskLookup}
 use Rattle.cata_core.specs.declared.step.Step.TheVariants.{AskCells, Tell, Post, Deliver}

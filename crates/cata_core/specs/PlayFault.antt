@@ -7,9 +7,10 @@ use Rattle.cata_core.specs.declared.step.Step.TheVariants.{AskCells, Tell, Post,
 use Rattle.cata_core.specs.declared.play_fault.PlayFault.{PlayFault}
 use Rattle.cata_core.specs.declared.play_fault.PlayFault.TheVariants.{NoSuchSite, NoSuchPost}
 use Rattle.cata_core.specs.declared.play_fault.PlayFault.TheVariants.{StampReused, NoMemory}
-use Rattle.cata_core.specs.Entries.{key_cmp, Entries, Agree}
-use Rattle.cata_core.specs.Clash.{IsFirstClash}
-use Rattle.cata_core.specs.Edits.{IsSettled}
+use Rattle.cell_core.specs.Entry.{key_cmp}
+use Rattle.catalogue.specs.Entries.{Entries, Agree}
+use Rattle.catalogue.specs.Clash.{IsFirstClash}
+use Rattle.catalogue.specs.Edits.{IsSettled}
 use Rattle.cata_core.specs.Taken.{edits_in, taken, taken_after, nothing_taken}
 use Rattle.cata_core.specs.Held.{Held, cells_in, held, held_after, nothing_held}
 

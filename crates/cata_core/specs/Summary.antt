@@ -2,7 +2,7 @@
 use Rattle.std.specs.Prelude.{ℕ, List, map}
 use Rattle.cell_core.specs.declared.stamp.Stamp.{Stamp}
 use Rattle.cata_core.specs.declared.summary.SummaryEntry.{SummaryEntry}
-use Rattle.cata_core.specs.Entries.{EntryKey}
+use Rattle.cell_core.specs.Entry.{EntryKey}
 use Rattle.cata_core.specs.Delta.{Stamps}
 
 -- a summary, by its owner and its stamps

@@ -6,7 +6,7 @@ use Rattle.std.specs.Cmp.Lexicographic.{pointwise, on_texts_equal, lists_equiv}
 use Rattle.cell_core.specs.declared.stamp.Stamp.{Stamp}
 use Rattle.cell_core.specs.Cell.{stamp_cmp_total}
 use Rattle.cell_core.specs.Stamp.{stamp_cmp}
-use Rattle.cata_core.specs.Entries.{EntryKey, key_cmp, key_cmp_total}
+use Rattle.cell_core.specs.Entry.{EntryKey, key_cmp, key_cmp_total}
 use Rattle.cata_core.specs.Summary.{SummaryState}
 
 -- one key with one stamp

@@ -3,7 +3,7 @@ use Rattle.std.specs.Prelude.{ℕ, List, [], ◌∷◌, ◌++◌, Option, Some, 
 use Rattle.std.specs.Prelude.{slice_get}
 use Rattle.cata_core.specs.declared.step.Step.{Step}
 use Rattle.cata_core.specs.declared.step.Step.TheVariants.{Edit, Merge, Tell, Post, Deliver}
-use Rattle.cata_core.specs.Entries.{Entry}
+use Rattle.catalogue.specs.Entries.{Entry}
 
 -- what is on its way by a post: to whom, and all that the sender had taken
 pub record PostedEdits : Type 0 where

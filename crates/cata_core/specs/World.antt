@@ -5,8 +5,9 @@ use Rattle.cata_core.specs.declared.answer.Answer.{Answer}
 use Rattle.cata_core.specs.declared.play_fault.PlayFault.{PlayFault}
 use Rattle.cata_core.specs.declared.play_fault.PlayFault.TheVariants.{StampReused, NoMemory}
 use Rattle.cata_core.specs.declared.runs.world.World.{World}
-use Rattle.cata_core.specs.Entries.{key_cmp, Entries}
-use Rattle.cata_core.specs.Clash.{IsFirstClash}
+use Rattle.cell_core.specs.Entry.{key_cmp}
+use Rattle.catalogue.specs.Entries.{Entries}
+use Rattle.catalogue.specs.Clash.{IsFirstClash}
 use Rattle.cata_core.specs.Held.{Held, held_step}
 use Rattle.cata_core.specs.Answer.{IsAnswered}
 use Rattle.cata_core.specs.PlayFault.{IsSound}

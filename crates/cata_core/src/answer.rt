@@ -4,10 +4,7 @@ ghost use Rattle.std.specs.Prelude.{◌≡◌, length, slice_get, IfOk, IsTrue, 
 ghost use Rattle.std.specs.Option.{option_copied};
 ghost use Rattle.std.specs.Slice.Iter.{iter_rest};
 
-use crate::catalogue::Catalogue;
-use crate::edit::Edit;
-use crate::entries::Entries;
-use crate::reply::Reply;
+use catalogue::{Catalogue, Edit, Entries, Reply};
 use cell_core::{Join, Key};
 use std::alloc::{AllocError, Global};
 use std::marker::Model;
@@ -20,7 +17,7 @@ pub struct Edits {
 }
 
 impl Model for Edits {
-    ghost use Rattle.cata_core.specs.Entries.{Entries};
+    ghost use Rattle.catalogue.specs.Entries.{Entries};
 
     ghost Value = { Entries };
 
@@ -83,7 +80,7 @@ impl Edits {
 /// Lists of edits are equal where their edits are.
 impl PartialEq for Edits {
     ghost use Rattle.std.specs.Cmp as laws_of;
-    ghost use Rattle.cata_core.specs.Equality.{entries_eq, entries_equiv};
+    ghost use Rattle.catalogue.specs.Equality.{entries_eq, entries_equiv};
 
     ghost eq = { entries_eq };
 
@@ -95,7 +92,7 @@ impl PartialEq for Edits {
 }
 
 impl Eq for Edits {
-    ghost use Rattle.cata_core.specs.Equality.{entries_equiv};
+    ghost use Rattle.catalogue.specs.Equality.{entries_equiv};
 
     ghost laws = { entries_equiv };
 }

@@ -4,12 +4,12 @@ ghost use Rattle.std.specs.Prelude.{◌≡◌, IfOk};
 ghost use Rattle.std.specs.FinMap.Entries.{find};
 ghost use Rattle.cell_core.specs.Keyed.{IsMap};
 ghost use Rattle.cata_core.specs.Delta.{delta_of, is_missing};
-ghost use Rattle.cata_core.specs.Entries.{key_cmp};
+ghost use Rattle.cell_core.specs.Entry.{key_cmp};
 ghost use Rattle.cata_core.specs.Seeking.{IsBehind};
 ghost use Rattle.cata_core.specs.Summary.{stamps_of};
 
-use crate::catalogue::Catalogue;
 use crate::summary::{Summary, SummaryEntry};
+use catalogue::Catalogue;
 use cell_core::{Join, Key, MessageId, SiteName, Stamp};
 use lang_core::Lang;
 use std::alloc::{AllocError, Global};

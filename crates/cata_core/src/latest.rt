@@ -3,14 +3,14 @@
 ghost use Rattle.std.specs.Prelude.{◌≡◌, Some};
 ghost use Rattle.cell_core.specs.Cell.{joined_stamps};
 ghost use Rattle.cell_core.specs.Keyed.{joined_if_both};
-ghost use Rattle.cata_core.specs.Latest.{latest_of};
+ghost use Rattle.catalogue.specs.Latest.{latest_of};
 
-use crate::catalogue::Catalogue;
+use catalogue::Catalogue;
 use cell_core::Stamp;
 
 /// What is known of the latest stamp of a catalogue, without a walk over its cells.
 #[derive(Clone, Copy, Debug)]
-pub enum Latest {
+pub(crate) enum Latest {
     /// It is this one; none where there are no cells.
     Known(Option<Stamp>),
     /// It takes a walk over the cells.
@@ -21,7 +21,7 @@ impl Latest {
     ghost use Rattle.cata_core.specs.KnownLatest.{IsKnownLatest, known_with};
 
     /// The latest stamp of these cells, of which this is known.
-    pub fn of(self, catalogue: &Catalogue) -> Option<Stamp>
+    pub(crate) fn of(self, catalogue: &Catalogue) -> Option<Stamp>
         requires { IsKnownLatest self catalogue.now }
         ensures { result ≡ latest_of catalogue.now }
     {
@@ -32,7 +32,7 @@ impl Latest {
     }
 
     /// What is known when a cell with this stamp joins.
-    pub fn with(self, stamp: Stamp) -> Latest
+    pub(crate) fn with(self, stamp: Stamp) -> Latest
         ensures { result ≡ known_with self (Some stamp) }
     {
         match self {
@@ -42,7 +42,7 @@ impl Latest {
     }
 
     /// What is known when the cells of another catalogue join, of which that is known.
-    pub fn with_cells(self, other: &Catalogue, latest: Latest) -> Latest
+    pub(crate) fn with_cells(self, other: &Catalogue, latest: Latest) -> Latest
         requires { IsKnownLatest latest other.now }
         ensures { result ≡ known_with self (latest_of other.now) }
     {

@@ -24,26 +24,10 @@
 #![tactic(auto)]
 
 mod answer;
-mod asking;
-mod cata_fault;
-mod catalogue;
-mod cell_refusal;
-mod cells;
-mod changes;
-mod clash;
 mod delta;
-mod edit;
-mod entries;
-mod equality;
-mod labels;
-mod languages;
 mod latest;
 pub mod laws;
-mod live;
-mod messages;
-mod places;
 mod play_fault;
-mod reply;
 mod runs;
 mod site;
 mod step;
@@ -52,18 +36,12 @@ mod summary_entries;
 mod syncing;
 
 pub use answer::{Answer, Answers, Edits};
-pub use cata_fault::CataFault;
-pub use catalogue::Catalogue;
-pub use cells::Cells;
-pub use changes::{Change, Changes};
+pub use catalogue::{
+    CataFault, Catalogue, Cells, Change, Changes, Edit, Entries, Labels, LentEntries, LentReply,
+    Message, Messages, Reply, list_languages,
+};
 pub use delta::Delta;
-pub use edit::Edit;
-pub use entries::{Entries, LentEntries};
-pub use labels::Labels;
-pub use languages::list_languages;
-pub use messages::{Message, Messages};
 pub use play_fault::PlayFault;
-pub use reply::{LentReply, Reply};
 pub use runs::play;
 pub use site::Site;
 pub use step::Step;

@@ -2,7 +2,7 @@
 
 ghost use Rattle.std.specs.Prelude.{◌≡◌, ◌⊎◌, ◌≤◌, IfOk, IfErr, OnOk};
 ghost use Rattle.cata_core.specs.declared.play_fault.PlayFault.TheVariants.{NoMemory};
-ghost use Rattle.cata_core.specs.Edits.{IsConsistent};
+ghost use Rattle.catalogue.specs.Edits.{IsConsistent};
 ghost use Rattle.cata_core.specs.Taken.{edits_of};
 ghost use Rattle.cata_core.specs.Answer.{AreHeldAnswers, AreAnswers};
 ghost use Rattle.cata_core.specs.PlayFault.{NoneFaulty, IsFirstFault, IsNoClash, NoDelivers};
@@ -11,10 +11,10 @@ pub(crate) mod steps;
 pub(crate) mod world;
 
 use crate::answer::Answers;
-use crate::catalogue::Catalogue;
 use crate::play_fault::PlayFault;
 use crate::runs::world::World;
 use crate::step::Step;
+use catalogue::Catalogue;
 use std::alloc::Global;
 
 /// The answers of a run over at most 1,024 sites, which begin empty: by consistent edits exactly

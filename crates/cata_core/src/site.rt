@@ -3,19 +3,20 @@
 ghost use Rattle.std.specs.Prelude.{◌≡◌, [], ◌∷◌, OnOk, OnErr, IfOk, IfErr, IsOk, MatchResult};
 ghost use Rattle.std.specs.Prelude.{Some, None};
 ghost use Rattle.std.specs.FinMap.Entries.{put};
+ghost use Rattle.std.specs.Cmp as laws_of;
 ghost use Rattle.cell_core.specs.Stamp.{IsNext, IsAbove};
-ghost use Rattle.cata_core.specs.CataFault.{IsRefusal, IsLeft};
+ghost use Rattle.catalogue.specs.CataFault.{IsRefusal, IsLeft};
 ghost use Rattle.cata_core.specs.Delta.{summary_of, delta_of};
-ghost use Rattle.cata_core.specs.Entries.{key_cmp, Agree, joined, Between};
-ghost use Rattle.cata_core.specs.Latest.{latest_of, IsLatest};
-ghost use Rattle.cata_core.specs.Settled.{IsSettledIn};
+ghost use Rattle.cell_core.specs.Entry.{key_cmp};
+ghost use Rattle.catalogue.specs.Entries.{Agree, joined, Between};
+ghost use Rattle.catalogue.specs.Latest.{latest_of, IsLatest};
+ghost use Rattle.catalogue.specs.Settled.{IsSettledIn};
+ghost use Rattle.cata_core.specs.Site.{site_eq, site_equiv};
 
-use crate::cata_fault::CataFault;
-use crate::catalogue::Catalogue;
 use crate::delta::{Delta, missing_cells};
-use crate::edit::Edit;
 use crate::latest::Latest;
 use crate::summary::Summary;
+use catalogue::{CataFault, Catalogue, Edit};
 use cell_core::{Cell, Label, MessageId, SiteName, Stamp};
 use lang_core::Lang;
 use std::alloc::{AllocError, Global};
@@ -340,4 +341,19 @@ impl Site {
         self.latest = Latest::Known(Some(cell.stamp()));
         Ok(())
     }
+}
+
+/// The same name, and equal catalogues.
+impl PartialEq for Site {
+    ghost eq = { site_eq };
+
+    ghost laws = { laws_of.partial_equiv_from_equiv site_equiv };
+
+    fn eq(&self, other: &Site) -> bool {
+        self.name() == other.name() && self.catalogue() == other.catalogue()
+    }
+}
+
+impl Eq for Site {
+    ghost laws = { site_equiv };
 }

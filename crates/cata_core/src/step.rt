@@ -1,6 +1,6 @@
 //! The steps of a run.
 
-use crate::edit::Edit;
+use catalogue::Edit;
 use cell_core::MessageId;
 use lang_core::Lang;
 use nego_core::{PriorityList, Scheme};

@@ -5,10 +5,10 @@ ghost use Rattle.std.specs.Prelude.{length, slice_get};
 ghost use Rattle.std.specs.Option.{option_map};
 ghost use Rattle.cell_core.specs.Keyed.{IsMap};
 ghost use Rattle.cata_core.specs.Delta.{summary_of};
-ghost use Rattle.cata_core.specs.Entries.{key_cmp};
+ghost use Rattle.cell_core.specs.Entry.{key_cmp};
 
-use crate::catalogue::Catalogue;
 use crate::summary_entries::SummaryEntries;
+use catalogue::Catalogue;
 use cell_core::{Key, MessageId, SiteName, Stamp};
 use lang_core::Lang;
 use std::alloc::{AllocError, Global};
@@ -24,7 +24,7 @@ pub(crate) struct SummaryEntry {
 }
 
 impl SummaryEntry {
-    ghost use Rattle.cata_core.specs.Entries.{key_cmp};
+    ghost use Rattle.cell_core.specs.Entry.{key_cmp};
 
     /// How its key compares with a key.
     pub(crate) fn compare(&self, id: &MessageId, lang: &Lang) -> Ordering
@@ -55,7 +55,7 @@ pub struct Summary {
 
 impl Model for Summary {
     ghost use Rattle.cell_core.specs.Keyed.{IsMap};
-    ghost use Rattle.cata_core.specs.Entries.{key_cmp};
+    ghost use Rattle.cell_core.specs.Entry.{key_cmp};
     ghost use Rattle.cata_core.specs.Summary.{SummaryState, stamps_of};
 
     ghost Value = { SummaryState };
@@ -66,7 +66,7 @@ impl Model for Summary {
 }
 
 impl Summary {
-    ghost use Rattle.cata_core.specs.Entries.{IsAboveAll};
+    ghost use Rattle.catalogue.specs.Entries.{IsAboveAll};
     ghost use Rattle.cata_core.specs.SummaryEntries.{stamps_left};
     ghost use Rattle.cata_core.specs.Summary.{SummaryState, stamps_of};
 

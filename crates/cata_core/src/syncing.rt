@@ -1,12 +1,12 @@
 //! Two sites take each other's cells.
 
 ghost use Rattle.std.specs.Prelude.{◌≡◌, ◌⊎◌, OnOk, OnErr, IfErr};
-ghost use Rattle.cata_core.specs.CataFault.{IsRefusal};
-ghost use Rattle.cata_core.specs.Entries.{Agree, joined};
+ghost use Rattle.catalogue.specs.CataFault.{IsRefusal};
+ghost use Rattle.catalogue.specs.Entries.{Agree, joined};
 ghost use Rattle.cata_core.specs.Site.{SiteState, IsLeftSite};
 
-use crate::cata_fault::CataFault;
 use crate::site::Site;
+use catalogue::CataFault;
 use std::alloc::{AllocError, Global};
 
 /// Gives both sites the join of their catalogues, so that both have equal ones.

@@ -1,7 +1,8 @@
 -- Values that may be absent: how they agree and join, and what lies between.
 use Rattle.std.proofs.Common.{◌≡◌, Option, Some, None, sym, ap, ◌∙◌, subst, refl}
 use Rattle.cell_core.specs.Join.{JoinLaws}
-use Rattle.cell_core.specs.Keyed.{AgreeIfBoth, joined_if_both, if_both_laws, BetweenIfBoth}
+use Rattle.cell_core.specs.Keyed.{AgreeIfBoth, joined_if_both, BetweenIfBoth}
+use Rattle.cell_core.specs.KeyedLaws.{if_both_laws}
 use Rattle.cell_core.specs.Missing.{or_other}
 use Rattle.cell_core.proofs.Basics.{some_not_none}
 use Rattle.cell_core.proofs.InterleaveLemmas.{or_none}

@@ -6,12 +6,6 @@ use Rattle.std.specs.declared.cmp.Ordering.{Ordering}
 use Rattle.std.specs.declared.cmp.Ordering.TheVariants.{Less, Equal, Greater}
 use Rattle.std.specs.Ordering.{ordering_then, is_lt, is_eq, is_gt}
 
--- An ordering, and then equal, is that ordering.
-pub then_equal : (o : Ordering) → ordering_then o Equal ≡ o
-then_equal Less = refl
-then_equal Equal = refl
-then_equal Greater = refl
-
 -- Of three orderings in sequence, it does not matter which two are combined first.
 pub then_assoc : (a b c : Ordering)
     → ordering_then a (ordering_then b c) ≡ ordering_then (ordering_then a b) c

@@ -1,7 +1,6 @@
 -- When stamps and labels are the same.
-use Rattle.std.proofs.Common.{◌≡◌, ℕ, Bool, true, false, ◌&&◌, List, Option, Some, None, ap, refl}
+use Rattle.std.proofs.Common.{◌≡◌, ℕ, Bool, ◌&&◌, List, Option, Some, None, ap, refl}
 use Rattle.std.proofs.Common.{nat_eq}
-use Rattle.std.specs.Prelude.{not}
 use Rattle.std.specs.Bool.{Decides}
 use Rattle.std.specs.Option.{option_eq}
 use Rattle.std.specs.Cmp.{unsigned_Decides}
@@ -33,8 +32,3 @@ label_decides None (Some y) = (λ t. cc, λ same. cc)
 label_decides (Some x) None = (λ t. cc, λ same. cc)
 label_decides (Some x) (Some y) =
     (λ t. ap Some ((texts_decides x y).0 t), λ same. (texts_decides x y).1 (cc))
-
--- Where the negation of a test is false, the test is true.
-pub holds_from_not : (b : Bool) → not b ≡ false → b ≡ true
-holds_from_not true e = refl
-holds_from_not false e = cc

@@ -9,7 +9,8 @@ use Rattle.std.specs.FinMap.Entries.{find, where_key, is_sorted-put, find-put, f
 use Rattle.std.proofs.lemmas.List.{take_more}
 use Rattle.std.proofs.lemmas.List.Elements.{filter-append}
 use Rattle.cell_core.specs.Join.{JoinLaws}
-use Rattle.cell_core.specs.Keyed.{IsMap, AgreeIfBoth, joined_if_both, if_both_laws, BetweenIfBoth}
+use Rattle.cell_core.specs.Keyed.{IsMap, AgreeIfBoth, joined_if_both, BetweenIfBoth}
+use Rattle.cell_core.specs.KeyedLaws.{if_both_laws}
 use Rattle.cell_core.specs.Keyed.{BetweenAtKeys}
 use Rattle.cell_core.specs.Places.{place_of, IsPlace, IsGap}
 use Rattle.cell_core.specs.Missing.{pairs_of, AllGaps, or_other, kept_joined, is_new}

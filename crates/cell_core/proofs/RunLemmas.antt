@@ -14,8 +14,9 @@ use Rattle.std.specs.declared.vec.Vec.{Vec}
 use Rattle.std.specs.FinMap.Entries.{find, is_sorted, below_all}
 use Rattle.cell_core.specs.Join.{JoinLaws}
 use Rattle.cell_core.specs.Keyed.{IsMap, AgreeIfBoth, joined_if_both, BetweenIfBoth, BetweenAtKeys}
-use Rattle.cell_core.specs.Keyed.{IsJoinedWith, joined_maps, joined_maps-IsMap, find-joined_maps}
-use Rattle.cell_core.specs.Keyed.{same_maps}
+use Rattle.cell_core.specs.Keyed.{IsJoinedWith, joined_maps}
+use Rattle.cell_core.specs.KeyedLaws.{joined_maps-IsMap, find-joined_maps}
+use Rattle.cell_core.specs.KeyedLaws.{same_maps}
 use Rattle.cell_core.specs.Places.{place_of}
 use Rattle.cell_core.specs.Missing.{or_other}
 use Rattle.cell_core.specs.Chunks.{all_of, IsChunked, IsRunFor}

@@ -1,8 +1,8 @@
 -- When a stamp is the least new one of a site.
-use Rattle.std.proofs.Common.{◌≡◌, ◌≢◌, ℕ, ◌+◌, ◌<◌, ◌≤◌, ◌^◌, ◌⊎◌, inl, inr, true, false, List}
+use Rattle.std.proofs.Common.{◌≡◌, ◌≢◌, ℕ, ◌+◌, ◌<◌, ◌≤◌, ◌^◌, ◌⊎◌, inl, inr, false, List}
 use Rattle.std.proofs.Common.{Option, Some, None, sym, ap, ◌∙◌, refl, arith}
 use Rattle.std.proofs.lemmas.Bool.{cases_lt}
-use Rattle.std.specs.Ordering.{nat_cmp, ordering_then, MatchOrdering, is_lt, is_eq}
+use Rattle.std.specs.Ordering.{nat_cmp, ordering_then, MatchOrdering, is_lt}
 use Rattle.std.specs.Cmp.{nat_cmp_is, tied_itself}
 use Rattle.std.specs.Cmp.Lexicographic.{slice_cmp, nat_list_cmp_total}
 use Rattle.std.specs.declared.cmp.Ordering.{Ordering}
@@ -206,15 +206,3 @@ module _ (last : Stamp) (now : ℕ) (site : List ℕ) where
         above = before_in_time last s (omega arith);
       })
       (λ u new. up_to_time (last.time + 1) u.time u.count (omega (arith, passes_time full u new)))
-
--- An ordering that is tested to be less is `Less`.
-pub less_from : (r : Ordering) → is_lt r ≡ true → r ≡ Less
-less_from Less h = refl
-less_from Equal h = absurd (cc)
-less_from Greater h = absurd (cc)
-
--- An ordering that is tested to be equal is `Equal`.
-pub equal_from : (r : Ordering) → is_eq r ≡ true → r ≡ Equal
-equal_from Less h = absurd (cc)
-equal_from Equal h = refl
-equal_from Greater h = absurd (cc)

@@ -1,10 +1,9 @@
 -- Texts without zero bytes that are padded with them to a fixed length.
-use Rattle.std.proofs.Common.{◌≡◌, ℕ, suc, zero, ◌+◌, ◌-◌, ◌<◌, ◌≤◌, false}
+use Rattle.std.proofs.Common.{◌≡◌, ℕ, suc, zero, ◌+◌, ◌-◌, ◌<◌, ◌≤◌}
 use Rattle.std.proofs.Common.{List, [], ◌∷◌, ◌++◌, length, take, replicate, All}
 use Rattle.std.proofs.Common.{sym, ap, ◌∙◌, refl, arith}
 use Rattle.std.proofs.lemmas.List.Elements.{All-head, All-tail}
 use Rattle.std.proofs.Math.Seq.{take-append_seam}
-use Rattle.std.proofs.lemmas.Bool.Decides.{nat_tests}
 use Rattle.std.specs.Prelude.{◌==◌}
 use Rattle.std.specs.Cmp.{tied_itself, nat_cmp_is}
 use Rattle.std.specs.Cmp.Lexicographic.{slice_cmp, nat_list_cmp_total}
@@ -12,6 +11,7 @@ use Rattle.std.specs.Ordering.{nat_cmp, ordering_then}
 use Rattle.std.specs.declared.cmp.Ordering.TheVariants.{Less, Greater}
 use Rattle.std.specs.List.{position_or_len}
 use Rattle.cell_core.specs.ZeroPadded.{zero_padded, before_zeros}
+use Rattle.lang_core.proofs.TagTableLemmas.{not_zero}
 
 -- texts without zero bytes keep their order where both are padded to one length
 cmp_padded_by : (xs ys : List ℕ) (i j : ℕ) → length xs + i ≡ length ys + j
@@ -43,9 +43,6 @@ pub cmp-zero_padded : (n : ℕ) (x y : List ℕ) → length x ≤ n → length y
     → slice_cmp nat_cmp (zero_padded n x) (zero_padded n y) ≡ slice_cmp nat_cmp x y
 cmp-zero_padded n x y fits_x fits_y p q =
     cmp_padded_by x y (n - length x) (n - length y) (omega (arith, fits_x, fits_y)) p q
-
-not_zero : (b : ℕ) → (suc b == 0) ≡ false
-not_zero b = grind (arith, nat_tests)
 
 first_zero : (text : List ℕ) (k : ℕ) → All (λ b. 0 < b) text
     → position_or_len (λ b. b == 0) (text ++ replicate k 0) ≡ length text

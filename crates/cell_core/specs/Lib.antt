@@ -10,6 +10,7 @@ pub mod Label
 pub mod Later
 pub mod LaterLaws
 pub mod Keyed
+pub mod KeyedLaws
 pub mod MessageId
 pub mod Migration
 pub mod Missing

@@ -9,7 +9,8 @@ ghost use Rattle.std.specs.FinMap.Entries.{find, put};
 ghost use Rattle.cell_core.specs.contracts.keyed.Keyed.{the_row};
 ghost use Rattle.cell_core.specs.Above.{IsAboveAll};
 ghost use Rattle.cell_core.specs.Found.{with_key};
-ghost use Rattle.cell_core.specs.Keyed.{IsMap, AgreeMaps, joined_maps, BetweenMaps, map_laws};
+ghost use Rattle.cell_core.specs.Keyed.{IsMap, AgreeMaps, joined_maps, BetweenMaps};
+ghost use Rattle.cell_core.specs.KeyedLaws.{map_laws};
 
 pub(crate) mod iter;
 

@@ -4,7 +4,7 @@ use Rattle.std.proofs.Common.{◌≡◌, ℕ, List, Option, None, Some, Result, 
 use Rattle.std.proofs.Common.{refl, subst}
 use Rattle.std.specs.Prelude.{MatchOption}
 use Rattle.std.specs.Str.Parse.{ParsesUnsigned}
-use Rattle.cata_core.proofs.Basics.{some_same}
+use Rattle.catalogue.proofs.Basics.{some_same}
 use Rattle.clap.specs.Matches.{ReadsOne}
 use Rattle.clap.specs.Words.{Row, Text}
 use Rattle.command_core.specs.TaskWords.{GivesTask, IsNumberOf, TaskWords}

@@ -4,10 +4,10 @@ use Rattle.std.specs.Prelude.{if◌then◌else◌}
 use Rattle.std.specs.Str.{bytes_eq}
 use Rattle.clap.specs.Words.{Row, Text, first_of}
 use Rattle.front_core.specs.Preferences.{FieldText}
-use Rattle.nego_core.specs.declared.field.Malformed.{Malformed}
-use Rattle.nego_core.specs.declared.field.Malformed.TheVariants.{Refused, PassedOver}
-use Rattle.nego_core.specs.declared.scheme.Scheme.{Scheme}
-use Rattle.nego_core.specs.declared.scheme.Scheme.TheVariants.{Basic, Extended}
+use Rattle.list_core.specs.declared.field.Malformed.{Malformed}
+use Rattle.list_core.specs.declared.field.Malformed.TheVariants.{Refused, PassedOver}
+use Rattle.list_core.specs.declared.scheme.Scheme.{Scheme}
+use Rattle.list_core.specs.declared.scheme.Scheme.TheVariants.{Basic, Extended}
 use Rattle.nego_core.specs.declared.widening.Widening.{Widening}
 use Rattle.nego_core.specs.declared.widening.Widening.TheVariants.{By, Off}
 

@@ -8,15 +8,16 @@ use Rattle.cell_core.specs.Cell.{stamp_cmp_exact, stamp_cmp_total}
 use Rattle.cell_core.specs.Keyed.{IsMap}
 use Rattle.cell_core.specs.Stamp.{IsNext, stamp_cmp}
 use Rattle.cell_core.specs.declared.stamp.Stamp.{Stamp}
-use Rattle.cata_core.specs.CataFault.{IsRefusal}
-use Rattle.cata_core.specs.Entries.{Agree, Entries, EntryKey, key_cmp}
+use Rattle.catalogue.specs.CataFault.{IsRefusal}
+use Rattle.cell_core.specs.Entry.{EntryKey, key_cmp}
+use Rattle.catalogue.specs.Entries.{Agree, Entries}
 use Rattle.cata_core.specs.Site.{RefusesDelta as NotTaken, RefusesEdit, SiteState}
 use Rattle.cata_core.specs.Summary.{SummaryState}
-use Rattle.cata_core.specs.declared.cata_fault.CataFault.{CataFault}
-use Rattle.cata_core.specs.declared.cata_fault.CataFault.TheVariants as cata
+use Rattle.catalogue.specs.declared.cata_fault.CataFault.{CataFault}
+use Rattle.catalogue.specs.declared.cata_fault.CataFault.TheVariants as cata
 use Rattle.cata_core.specs.declared.delta.Delta.{Delta as DeltaState}
-use Rattle.cata_core.specs.Latest.{latest_of}
-use Rattle.cata_core.proofs.ClashLemmas.{clash_not_agree}
+use Rattle.catalogue.specs.Latest.{latest_of}
+use Rattle.catalogue.proofs.ClashLemmas.{clash_not_agree}
 use Rattle.json_docs.specs.Faults.{of_no_document, of_site}
 use Rattle.json_docs.specs.declared.fault.DocFault.{DocFault}
 use Rattle.row_docs.specs.Reading.{IsOfDocument}
@@ -35,8 +36,10 @@ use Rattle.docs_core.specs.Calls.{RefusesDeltaFor, RefusesEditing, RefusesSync, 
 use Rattle.docs_core.specs.Exchange.{IsImported, RefusesImport}
 use Rattle.docs_core.specs.Imported.{puts_of}
 use Rattle.docs_core.specs.Made.{Change, Makes, SpendsClock, with_change}
-use Rattle.docs_core.specs.TimeLimits.{AreInTime, AreSyncedUntil, IsAheadOfBoth, IsTakenUntil}
-use Rattle.docs_core.specs.TimeLimits.{IsTimeAhead, ReadsInTime, RefusesDeltaUntil}
+use Rattle.docs_core.specs.TimeLimits.{AreSyncedUntil, IsAheadOfBoth, IsTakenUntil}
+use Rattle.site_docs.specs.RowsInTime.{AreInTime}
+use Rattle.docs_core.specs.TimeLimits.{ReadsInTime, RefusesDeltaUntil}
+use Rattle.site_docs.specs.RowsInTime.{IsTimeAhead}
 use Rattle.docs_core.specs.TimeLimits.{RefusesSyncUntil, RefusesTakingUntil}
 use Rattle.docs_core.specs.Updated.{AreChanges, IsUpdated, RefusesUpdate, SpendsUpdate}
 use Rattle.docs_core.proofs.CallRefusals.{ahead_not_in_time, cells_not_refused}

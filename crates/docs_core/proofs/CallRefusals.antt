@@ -6,12 +6,13 @@ use Rattle.std.proofs.lemmas.List.{get_or_append_left}
 use Rattle.std.proofs.Math.Seq.{get_or-append_seam}
 use Rattle.std.proofs.lemmas.List.Elements.{All-head, All-tail}
 use Rattle.cell_core.specs.Keyed.{IsMap}
-use Rattle.cata_core.specs.CataFault.{IsRefusal}
-use Rattle.cata_core.specs.Entries.{Agree, Entries, key_cmp}
+use Rattle.catalogue.specs.CataFault.{IsRefusal}
+use Rattle.cell_core.specs.Entry.{key_cmp}
+use Rattle.catalogue.specs.Entries.{Agree, Entries}
 use Rattle.cata_core.specs.Site.{SiteState}
-use Rattle.cata_core.specs.declared.cata_fault.CataFault.{CataFault}
-use Rattle.cata_core.specs.declared.cata_fault.CataFault.TheVariants as cata
-use Rattle.cata_core.proofs.ClashLemmas.{clash_is_one, clash_not_agree}
+use Rattle.catalogue.specs.declared.cata_fault.CataFault.{CataFault}
+use Rattle.catalogue.specs.declared.cata_fault.CataFault.TheVariants as cata
+use Rattle.catalogue.proofs.ClashLemmas.{clash_is_one, clash_not_agree}
 use Rattle.json_docs.specs.Faults.{of_document, of_no_document, of_site}
 use Rattle.json_docs.specs.declared.fault.DocCause.{DocCause}
 use Rattle.json_docs.specs.declared.fault.DocCause.TheVariants.{TimeAhead}
@@ -24,7 +25,7 @@ use Rattle.row_docs.proofs.RisingKeys.{cells_rise}
 use Rattle.site_docs.specs.ReadsAs.{ReadsAsSite, RefusesSite}
 use Rattle.site_docs.specs.SiteDocuments.{IsSiteDocument, site_checks}
 use Rattle.docs_core.specs.Calls.{IsOfSite}
-use Rattle.docs_core.specs.TimeLimits.{AreInTime, IsFirstAhead, IsInTime, IsTimeAhead}
+use Rattle.site_docs.specs.RowsInTime.{AreInTime, IsFirstAhead, IsInTime, IsTimeAhead}
 use Rattle.docs_core.proofs.OldSitesLemmas.{document_rows}
 use Rattle.docs_core.proofs.OneRefusal.{cells_named, one_cause, read_not_refused}
 

@@ -1,11 +1,11 @@
 -- What a call on documents writes, and which refusal it hands on.
 use Rattle.std.proofs.Common.{◌≡◌, ◌≢◌, ◌∙◌, ℕ, List, ap, inl, inr, refl, subst, sym}
 use Rattle.std.specs.Prelude.{◌⊎◌}
-use Rattle.cata_core.specs.CataFault.{IsRefusal}
+use Rattle.catalogue.specs.CataFault.{IsRefusal}
 use Rattle.cata_core.specs.Site.{RefusesDelta, SiteState}
 use Rattle.cata_core.specs.declared.delta.Delta.{Delta}
-use Rattle.cata_core.specs.declared.cata_fault.CataFault.{CataFault}
-use Rattle.cata_core.specs.declared.cata_fault.CataFault.TheVariants as cata
+use Rattle.catalogue.specs.declared.cata_fault.CataFault.{CataFault}
+use Rattle.catalogue.specs.declared.cata_fault.CataFault.TheVariants as cata
 use Rattle.json_docs.specs.Checks.{OrMemory}
 use Rattle.json_docs.specs.Faults.{of_no_document, of_site}
 use Rattle.json_docs.specs.declared.fault.DocFault.{DocFault}

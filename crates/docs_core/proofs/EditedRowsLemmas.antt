@@ -1,21 +1,19 @@
 -- The rows of a site on both sides of one key.
-use Rattle.std.proofs.Common.{◌≡◌, ◌∙◌, ◌++◌, [], ◌∷◌, Bool, Some, ap, ap₂, cond, false, refl}
-use Rattle.std.proofs.Common.{subst, sym, true, true≢false}
+use Rattle.std.proofs.Common.{◌≡◌, ◌∙◌, ◌++◌, [], ◌∷◌, Bool, ap, ap₂, cond, false, refl}
+use Rattle.std.proofs.Common.{subst, sym, true}
 use Rattle.std.proofs.lemmas.List.Elements.{All-weaker}
 use Rattle.std.specs.declared.cmp.Ordering.{Ordering}
 use Rattle.std.specs.declared.cmp.Ordering.TheVariants.{Less, Equal, Greater}
 use Rattle.std.specs.FinMap.Entries.{below_all, by_order, is_sorted, put}
 use Rattle.std.specs.Ordering.{is_gt, is_lt, ordering_reverse}
-use Rattle.cell_core.specs.Cell.{joined_stamps}
-use Rattle.cell_core.specs.Keyed.{IsMap, joined_if_both}
+use Rattle.cell_core.specs.Keyed.{IsMap}
 use Rattle.cell_core.specs.declared.cell.Cell.{Cell}
-use Rattle.cata_core.specs.Entries.{Entries, Entry, EntryKey, IsAboveAll, key_cmp, key_cmp_exact}
-use Rattle.cata_core.specs.Entries.{key_cmp_total}
-use Rattle.cata_core.specs.Latest.{latest_of}
-use Rattle.cata_core.proofs.Basics.{second_part}
-use Rattle.cata_core.proofs.FlatLemmas.{all_first, all_rest}
-use Rattle.cata_core.proofs.LatestLemmas.{latest_assoc, latest_with_none}
+use Rattle.cell_core.specs.Entry.{EntryKey, key_cmp, key_cmp_exact}
+use Rattle.catalogue.specs.Entries.{Entries, Entry, IsAboveAll}
+use Rattle.cell_core.specs.Entry.{key_cmp_total}
+use Rattle.catalogue.proofs.FlatLemmas.{all_first, all_rest}
 use Rattle.docs_core.specs.EditedRows.{after_key, before_key}
+use Rattle.cell_core.proofs.Basics.{is_greater as greater, second_part}
 use Rattle.docs_core.proofs.JoinedRowsLemmas.{AreAfter, after_first}
 use Rattle.docs_core.proofs.LackedRowsLemmas.{above_one}
 
@@ -91,15 +89,6 @@ put_between key c (e ∷ es) map =
         ∙ ap₂ (λ xs ys. xs ++ (key, c) ∷ e ∷ ys) (none_before key es after)
         (all_after key es after))
 
--- the latest stamp of one cell more
-pub latest_more : (cells : Entries) (e : Entry)
-    → latest_of (cells ++ e ∷ []) ≡ joined_if_both joined_stamps (latest_of cells)
-    (Some e.1.stamp)
-latest_more [] e = latest_with_none (Some e.1.stamp)
-latest_more (x ∷ xs) e =
-    ap (joined_if_both joined_stamps (Some x.1.stamp)) (latest_more xs e)
-    ∙ sym (latest_assoc (Some x.1.stamp) (latest_of xs) (Some e.1.stamp))
-
 -- ---- a key that is passed
 
 -- where the key is passed the one that comes next is known to be greater
@@ -108,11 +97,6 @@ pub order_known : (key q : EntryKey) (passed : Bool) → (passed ≡ true → ke
 order_known key q true less =
     sym (key_cmp_total.antisymm q key ∙ ap ordering_reverse (less refl))
 order_known key q false less = refl
-
-greater : (r : Ordering) → is_gt r ≡ true → r ≡ Greater
-greater Less other = absurd (true≢false (sym other))
-greater Equal other = absurd (true≢false (sym other))
-greater Greater is = refl
 
 -- a key that comes after a cell with a greater key is greater
 pub passed_more : (key : EntryKey) (cells : Entries) (e : Entry) (q : EntryKey)

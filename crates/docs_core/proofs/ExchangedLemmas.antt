@@ -1,7 +1,7 @@
 -- What documents hold after a delta or a sync.
 use Rattle.std.proofs.Common.{◌≡◌, ◌∙◌, ℕ, List, ap, ap₂, subst}
 use Rattle.cata_core.specs.Delta.{HasAll, Stamps, delta_of, summary_of}
-use Rattle.cata_core.specs.Entries.{Agree, Entries, joined}
+use Rattle.catalogue.specs.Entries.{Agree, Entries, joined}
 use Rattle.cata_core.specs.Site.{SiteState}
 use Rattle.cata_core.specs.declared.delta.Delta.{Delta}
 use Rattle.cata_core.specs.Summary.{SummaryState}

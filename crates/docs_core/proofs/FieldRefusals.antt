@@ -1,6 +1,6 @@
 -- No field is both taken and refused, and it is refused for one cause, out of memory apart.
-use Rattle.std.proofs.Common.{◌≡◌, ◌≢◌, ◌∙◌, ◌+◌, ◌≤◌, ◌<◌, ℕ, List, [], ◌∷◌, ◌++◌, Bool, true}
-use Rattle.std.proofs.Common.{false, length, sym, ap, subst, refl, inl, inr, arith, get_or}
+use Rattle.std.proofs.Common.{◌≡◌, ◌≢◌, ◌∙◌, ◌≤◌, ◌<◌, ℕ, List, [], true}
+use Rattle.std.proofs.Common.{length, sym, ap, refl, inl, inr, arith, get_or}
 use Rattle.std.proofs.lemmas.Bool.Decides.{nat_tests}
 use Rattle.std.proofs.lemmas.List.Quantifiers.{position-Some}
 use Rattle.std.specs.Prelude.{◌⊎◌, Option, Some, unwrap_or}
@@ -8,48 +8,25 @@ use Rattle.std.specs.List.{position}
 use Rattle.std.specs.Str.{str_to_ascii_lowercase}
 use Rattle.lang_core.specs.Text.{IsSized, pieces}
 use Rattle.lang_core.specs.Tag.{HasSubtags, IsTag, RefusesTag}
-use Rattle.lang_core.specs.Grammar.{IsFirstRefused, WellFormed, are_allowed, tag_piece}
+use Rattle.lang_core.specs.Grammar.{IsFirstRefused, WellFormed, tag_piece}
 use Rattle.lang_core.specs.Lang.{RefusesLang, SpellsLang}
 use Rattle.lang_core.specs.declared.fault.LangFault.{LangFault}
 use Rattle.lang_core.specs.declared.fault.LangFault.TheVariants as lang
-use Rattle.lang_core.proofs.Basics.{each_true}
 use Rattle.lang_core.proofs.OneOffset.{one_offset}
 use Rattle.cell_core.specs.Label.{IsLabel, IsLabelCount, is_too_long}
 use Rattle.cell_core.specs.Fault.{RefusesTexts}
 use Rattle.cell_core.specs.declared.fault.CellFault.{CellFault}
 use Rattle.cell_core.specs.declared.fault.CellFault.TheVariants as cell
-use Rattle.nego_core.specs.Field.{IsField, IsFirstMalformed, RefusesField}
-use Rattle.nego_core.specs.Item.{Item}
-use Rattle.nego_core.specs.declared.fault.NegoFault.{NegoFault}
-use Rattle.nego_core.specs.declared.fault.NegoFault.TheVariants as nego
-use Rattle.nego_core.specs.declared.field.Malformed.TheVariants.{Refused}
-use Rattle.nego_core.specs.declared.scheme.Scheme.{Scheme}
-use Rattle.nego_core.proofs.FieldLemmas.{malformed_is_no_field, one_malformed}
+use Rattle.list_core.specs.Field.{IsField, IsFirstMalformed, RefusesField}
+use Rattle.list_core.specs.Item.{Item}
+use Rattle.list_core.specs.declared.fault.NegoFault.{NegoFault}
+use Rattle.list_core.specs.declared.fault.NegoFault.TheVariants as nego
+use Rattle.list_core.specs.declared.field.Malformed.TheVariants.{Refused}
+use Rattle.list_core.specs.declared.scheme.Scheme.{Scheme}
+use Rattle.list_core.proofs.FieldLemmas.{malformed_is_no_field, one_malformed}
+use Rattle.site_docs.proofs.LanguagesLemmas.{has_no_subtags}
 
 -- ---- languages
-
--- a piece that is refused is not in a list of allowed ones
-not_allowed : (allowed : ℕ → List ℕ → Bool) (from : ℕ) (before after : List (List ℕ))
-    (piece : List ℕ) → are_allowed allowed from (before ++ piece ∷ after) ≡ true
-    → allowed (from + length before) piece ≡ false → ⊥
-not_allowed allowed from [] after piece all not =
-    let fine : allowed from piece ≡ true =
-    (each_true (allowed from piece) (are_allowed allowed (from + 1) after) all).0 in
-    let refused : allowed from piece ≡ false =
-    subst (λ (n : ℕ). allowed n piece ≡ false) (omega arith) not in
-    cc
-not_allowed allowed from (x ∷ xs) after piece all not =
-    not_allowed allowed (from + 1) xs after piece
-    (each_true (allowed from x) (are_allowed allowed (from + 1) (xs ++ piece ∷ after)) all).1
-    (subst (λ (n : ℕ). allowed n piece ≡ false) (omega arith) not)
-
-has_no_subtags : (text : List ℕ) (offset : ℕ) → HasSubtags text
-    → IsFirstRefused tag_piece (pieces text) offset → ⊥
-has_no_subtags text offset all first =
-    not_allowed tag_piece 0 first.before first.after first.piece
-    (subst (λ list. are_allowed tag_piece 0 list ≡ true) first.whole all)
-    (subst (λ (n : ℕ). tag_piece n first.piece ≡ false) {x = length first.before}
-    {y = 0 + length first.before} (omega arith) first.refused)
 
 -- the causes for which a text is no tag
 abbrev TagCause : List ℕ → LangFault → Type 0

@@ -1,14 +1,11 @@
 -- The first byte that passes a test, as its place and as a position.
 use Rattle.std.proofs.Common.{◌≡◌, ◌∙◌, ◌<◌, ℕ, Bool, List, ap, arith, cond, false, get_or}
-use Rattle.std.proofs.Common.{length, refl, rules, sym, true}
+use Rattle.std.proofs.Common.{length, rules, sym, true}
 use Rattle.std.specs.Prelude.{None, Option, Some, nat_lt, position}
 use Rattle.std.specs.List.{position_or_len}
 use Rattle.std.proofs.lemmas.List.Sums.{position_or_len_is}
 use Rattle.memchr.specs.Find.{IsFirstByte}
-
-not_true : (b : Bool) → (b ≡ true → ⊥) → b ≡ false
-not_true true other = absurd (other refl)
-not_true false other = refl
+use Rattle.lang_core.proofs.Basics.{is_false as not_true}
 
 -- the position by the place of the first that passes
 at_place : (test : ℕ → Bool) (bytes : List ℕ) (k : ℕ) → position_or_len test bytes ≡ k

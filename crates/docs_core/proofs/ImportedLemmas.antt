@@ -5,17 +5,17 @@ use Rattle.std.specs.Prelude.{◌⊎◌, Some}
 use Rattle.std.proofs.lemmas.List.{map-append, take-append-drop, take_more}
 use Rattle.cell_core.specs.Stamp.{IsNext, NoNext}
 use Rattle.cell_core.specs.declared.stamp.Stamp.{Stamp}
-use Rattle.cata_core.specs.Entries.{Entries}
-use Rattle.cata_core.specs.Latest.{latest_of}
+use Rattle.catalogue.specs.Entries.{Entries}
+use Rattle.catalogue.specs.Latest.{latest_of}
 use Rattle.cata_core.specs.Site.{RefusesEdit, SiteState}
-use Rattle.cata_core.specs.declared.cata_fault.CataFault.{CataFault}
-use Rattle.cata_core.specs.declared.cata_fault.CataFault.TheVariants.{ClockSpent, NoMemory}
-use Rattle.cata_core.specs.declared.cata_fault.CataFault.TheVariants.{NotForMe, StampReused}
+use Rattle.catalogue.specs.declared.cata_fault.CataFault.{CataFault}
+use Rattle.catalogue.specs.declared.cata_fault.CataFault.TheVariants.{ClockSpent, NoMemory}
+use Rattle.catalogue.specs.declared.cata_fault.CataFault.TheVariants.{NotForMe, StampReused}
 use Rattle.map_docs.specs.LangMaps.{Labelled, labels_of}
 use Rattle.map_docs.specs.declared.maps.KeyedLabel.{KeyedLabel}
-use Rattle.map_docs.proofs.LangMapMembersLemmas.{first_left}
 use Rattle.docs_core.specs.Imported.{Imports, SpendsImport, puts_of}
 use Rattle.docs_core.specs.Made.{Change, Makes, SpendsClock, with_change}
+use Rattle.list_core.proofs.Basics.{element_at as first_left}
 use Rattle.docs_core.proofs.MadeLemmas.{Makes-append, Spends-append}
 
 -- the labels before a place and those from it on are all

@@ -11,23 +11,27 @@ use Rattle.std.specs.Ordering.{eq_by_cmp, is_eq, is_lt, ordering_reverse}
 use Rattle.cell_core.specs.Cell.{AgreeCells, joined_cells, stamp_cmp_total}
 use Rattle.cell_core.specs.Stamp.{stamp_cmp}
 use Rattle.cell_core.specs.Keyed.{AgreeIfBoth, IsMap, joined_at, joined_entries}
-use Rattle.cell_core.specs.Keyed.{joined_entries-IsMap, joined_of_maps}
+use Rattle.cell_core.specs.KeyedLaws.{joined_entries-IsMap, joined_of_maps}
 use Rattle.cell_core.specs.declared.stamp.Stamp.{Stamp}
 use Rattle.cell_core.specs.declared.cell.Cell.{Cell}
-use Rattle.cata_core.specs.Clash.{IsFirstClash}
-use Rattle.cata_core.specs.Entries.{Agree, Entries, Entry, EntryKey, IsAboveAll, joined, key_cmp}
-use Rattle.cata_core.specs.Entries.{key_cmp_exact, key_cmp_total}
-use Rattle.cata_core.proofs.Basics.{both_parts, first_part, less_than, second_part, some_same}
-use Rattle.cata_core.proofs.Basics.{tied}
-use Rattle.cata_core.proofs.BehindLemmas.{IsMap-behind, front_below, put_behind}
-use Rattle.cata_core.proofs.BestLemmas.{own_key}
-use Rattle.cata_core.proofs.ClashLemmas.{found_at}
-use Rattle.cata_core.proofs.FlatLemmas.{all_first, all_rest}
-use Rattle.cata_core.proofs.StampOrderLemmas.{not_less_self}
+use Rattle.catalogue.specs.Clash.{IsFirstClash}
+use Rattle.cell_core.specs.Entry.{EntryKey, key_cmp}
+use Rattle.catalogue.specs.Entries.{Agree, Entries, Entry, IsAboveAll, joined}
+use Rattle.cell_core.specs.Entry.{key_cmp_exact, key_cmp_total}
+use Rattle.catalogue.proofs.Basics.{some_same}
+use Rattle.catalogue.proofs.BehindLemmas.{IsMap-behind, front_below, put_behind}
+use Rattle.catalogue.proofs.BestLemmas.{own_key}
+use Rattle.catalogue.proofs.ClashLemmas.{found_at}
+use Rattle.catalogue.proofs.FlatLemmas.{all_first, all_rest}
+use Rattle.catalogue.proofs.StampOrderLemmas.{not_less_self}
 use Rattle.docs_core.specs.JoinedRows.{AreJoined, IsFirstGreater, IsJoinedTo, IsJoining}
 use Rattle.docs_core.specs.JoinedRows.{IsJoiningAs, IsJoiningBefore}
 use Rattle.site_docs.specs.RowsDraft.{HoldsRows}
 use Rattle.site_docs.specs.declared.rows_draft.RowsDraft.{RowsDraft}
+use Rattle.catalogue.proofs.ApplyLemmas.{with_none as agree_none}
+use Rattle.cata_core.proofs.SpreadingLemmas.{get_next as last_there}
+use Rattle.cell_core.proofs.Basics.{both_parts, first_part, less_than, second_part}
+use Rattle.cell_core.proofs.Basics.{tied_order as tied}
 
 -- ---- of an entry behind all others
 
@@ -150,11 +154,6 @@ joined_both own (e ∷ es) k c d above_own above =
 
 -- ---- maps that agree, with one entry more
 
--- a cell agrees with none
-agree_none : (o : Option Cell) → AgreeIfBoth AgreeCells o None
-agree_none None = tt
-agree_none (Some c) = tt
-
 -- what two agree on at a key, where one entry more is at another key or at this one
 at_more : (k : EntryKey) (P : EntryKey → Type 0) → P k
     → ((q : EntryKey) → eq_by_cmp key_cmp q k ≡ false → P q) → (q : EntryKey) → P q
@@ -254,7 +253,7 @@ part_after (x ∷ xs) ys map =
     (second_part (below_all key_cmp x.0 (xs ++ ys)) (is_sorted key_cmp (xs ++ ys)) map)
 
 -- so is what comes before a part
-below_part : (k : EntryKey) (xs ys : Entries) → T (below_all key_cmp k (xs ++ ys))
+pub below_part : (k : EntryKey) (xs ys : Entries) → T (below_all key_cmp k (xs ++ ys))
     → T (below_all key_cmp k xs)
 below_part k [] ys h = tt
 below_part k (x ∷ xs) ys h =
@@ -480,11 +479,6 @@ joining_ends left others seen rows so_far =
     )
 
 -- ---- a key at which the two do not agree
-
--- the last element, and those before it
-last_there : {X : Type 0} (xs : List X) (x : X) → slice_get (xs ++ x ∷ []) (length xs) ≡ Some x
-last_there [] x = refl
-last_there (y ∷ xs) x = last_there xs x
 
 still_there : {X : Type 0} (xs : List X) (x : X) (k : ℕ) → k < length xs
     → slice_get (xs ++ x ∷ []) k ≡ slice_get xs k

@@ -7,9 +7,10 @@ use Rattle.std.specs.declared.cmp.Ordering.TheVariants.{Less}
 use Rattle.std.specs.FinMap.Entries.{below_all, find, is_sorted}
 use Rattle.cell_core.specs.Keyed.{IsMap}
 use Rattle.cata_core.specs.Delta.{Stamps, delta_of, is_missing}
-use Rattle.cata_core.specs.Entries.{Entries, Entry, EntryKey, IsAboveAll, key_cmp}
-use Rattle.cata_core.proofs.Basics.{second_part}
-use Rattle.cata_core.proofs.FlatLemmas.{all_first, all_rest}
+use Rattle.cell_core.specs.Entry.{EntryKey, key_cmp}
+use Rattle.catalogue.specs.Entries.{Entries, Entry, IsAboveAll}
+use Rattle.catalogue.proofs.FlatLemmas.{all_first, all_rest}
+use Rattle.cell_core.proofs.Basics.{second_part}
 
 -- ---- what is left of a list
 

@@ -1,6 +1,6 @@
 -- Changes that are made after others.
 use Rattle.std.proofs.Common.{ℕ, List, [], ◌∷◌, ◌++◌, inr, subst}
-use Rattle.cata_core.specs.Entries.{Entries}
+use Rattle.catalogue.specs.Entries.{Entries}
 use Rattle.docs_core.specs.Made.{Change, Makes, SpendsClock, with_change}
 
 -- what is made after others is made with them

@@ -11,20 +11,23 @@ use Rattle.std.specs.Cmp.{tied_itself}
 use Rattle.std.proofs.lemmas.List.Elements.{All-cons, All-contains, All-head, All-nil, All-tail}
 use Rattle.cell_core.specs.Cell.{AgreeCells, joined_cells, stamp_cmp_total}
 use Rattle.cell_core.specs.Join.{IsJoinOf}
-use Rattle.cell_core.specs.Keyed.{AgreeIfBoth, IsMap, find-joined_maps, joined_if_both}
-use Rattle.cell_core.specs.Keyed.{joined_maps-IsMap, same_maps}
+use Rattle.cell_core.specs.Keyed.{AgreeIfBoth, IsMap, joined_if_both}
+use Rattle.cell_core.specs.KeyedLaws.{find-joined_maps}
+use Rattle.cell_core.specs.KeyedLaws.{joined_maps-IsMap, same_maps}
 use Rattle.cell_core.specs.Stamp.{stamp_cmp}
 use Rattle.cell_core.specs.declared.cell.Cell.{Cell}
 use Rattle.cell_core.specs.declared.stamp.Stamp.{Stamp}
 use Rattle.cell_core.proofs.JoinLemmas.{below_both}
-use Rattle.cata_core.specs.CataFault.{IsRefusal}
-use Rattle.cata_core.specs.Entries.{Agree, Entries, EntryKey, IsBelowCells, catalogue_laws}
-use Rattle.cata_core.specs.Entries.{joined, key_cmp, key_cmp_exact, key_cmp_total}
-use Rattle.cata_core.specs.Parts.{part_of}
+use Rattle.catalogue.specs.CataFault.{IsRefusal}
+use Rattle.cell_core.specs.Entry.{EntryKey}
+use Rattle.catalogue.specs.Entries.{Agree, Entries, IsBelowCells, catalogue_laws}
+use Rattle.cell_core.specs.Entry.{key_cmp, key_cmp_exact, key_cmp_total}
+use Rattle.catalogue.specs.Entries.{joined}
+use Rattle.catalogue.specs.Parts.{part_of}
 use Rattle.cata_core.specs.Site.{SiteState}
-use Rattle.cata_core.proofs.Basics.{some_same}
-use Rattle.cata_core.proofs.MembersLemmas.{Contains-from_in, In, in_from_Contains}
-use Rattle.cata_core.proofs.PartsLemmas.{parts_agree, parts_join}
+use Rattle.catalogue.proofs.Basics.{some_same}
+use Rattle.catalogue.proofs.MembersLemmas.{Contains-from_in, In, in_from_Contains}
+use Rattle.catalogue.proofs.PartsLemmas.{parts_agree, parts_join}
 use Rattle.json_docs.specs.declared.fault.DocFault.{DocFault}
 use Rattle.row_docs.specs.Reading.{IsOfDocument}
 use Rattle.site_docs.specs.ReadsAs.{IsSiteText, ReadsAsSite, RefusesSite}
@@ -34,7 +37,8 @@ use Rattle.docs_core.specs.Lines.{documents_of}
 use Rattle.docs_core.specs.Merged.{AllAgree, AreMerged, IsMerged, ReadAsSites, RefusesMerge}
 use Rattle.docs_core.specs.Merged.{RefusesNext, RefusesOther, joined_all, merged_site}
 use Rattle.docs_core.specs.Merged.{part_of_site}
-use Rattle.docs_core.specs.TimeLimits.{AreInTime, AreSyncedUntil, IsInTime, IsTimeAhead}
+use Rattle.docs_core.specs.TimeLimits.{AreSyncedUntil}
+use Rattle.site_docs.specs.RowsInTime.{AreInTime, IsInTime, IsTimeAhead}
 use Rattle.docs_core.proofs.CallRefusals.{ahead_not_in_time, all_at, cells_not_refused}
 use Rattle.docs_core.proofs.CallRefusals.{one_ahead, one_of_cells, one_of_site_document}
 use Rattle.docs_core.proofs.CallRefusals.{site_not_refused, site_rises}

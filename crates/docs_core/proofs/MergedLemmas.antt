@@ -5,7 +5,7 @@ use Rattle.std.proofs.Common.{subst, sym}
 use Rattle.std.specs.Prelude.{◌⊎◌, Option}
 use Rattle.std.specs.List.{AllZip}
 use Rattle.std.proofs.lemmas.List.Elements.{All-nil, All-push}
-use Rattle.cata_core.specs.Entries.{Agree, Entries, joined}
+use Rattle.catalogue.specs.Entries.{Agree, Entries, joined}
 use Rattle.cata_core.specs.Site.{SiteState}
 use Rattle.json_docs.specs.declared.fault.DocFault.{DocFault}
 use Rattle.row_docs.specs.Reading.{IsOfDocument}
@@ -13,7 +13,7 @@ use Rattle.site_docs.specs.ReadsAs.{ReadsAsSite, RefusesSite}
 use Rattle.docs_core.specs.Lines.{AreDocuments, documents_of, lines_of, one_at_least}
 use Rattle.docs_core.specs.Merged.{AreMerged, JoinsOther, RefusesMerge, RefusesOther}
 use Rattle.docs_core.specs.Merged.{joined_all, merged_site}
-use Rattle.docs_core.specs.TimeLimits.{AreInTime}
+use Rattle.site_docs.specs.RowsInTime.{AreInTime}
 use Rattle.docs_core.proofs.LinesLemmas.{document_cut, few_lines}
 
 -- ---- lists

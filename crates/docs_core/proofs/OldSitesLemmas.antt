@@ -9,7 +9,8 @@ use Rattle.serde_json.specs.Data.{Data}
 use Rattle.serde_json.specs.Find.{as_str, get}
 use Rattle.cell_core.specs.Keyed.{IsMap}
 use Rattle.cell_core.specs.Migration.{IsOldStamp, OldCell, OldStamp, migrated_cell, migrated_stamp}
-use Rattle.cata_core.specs.Entries.{Agree, Entries, EntryKey, joined, key_cmp}
+use Rattle.cell_core.specs.Entry.{EntryKey, key_cmp}
+use Rattle.catalogue.specs.Entries.{Agree, Entries, joined}
 use Rattle.cata_core.specs.Migration.{AgreeOld, IsOldMap, OldDelta, OldEntries, OldEntry, OldSite}
 use Rattle.cata_core.specs.Migration.{OldStamps, OldSummary, joined_old, migrated_delta}
 use Rattle.cata_core.specs.Migration.{migrated_entries, migrated_site, migrated_summary}
@@ -18,7 +19,7 @@ use Rattle.cata_core.specs.OldSteps.{OldAskCells, OldTell, OldPost, OldDeliver}
 use Rattle.cata_core.specs.Site.{SiteState}
 use Rattle.cata_core.specs.Summary.{SummaryState}
 use Rattle.cata_core.specs.declared.delta.Delta.{Delta as DeltaState}
-use Rattle.cata_core.proofs.Basics.{some_same}
+use Rattle.catalogue.proofs.Basics.{some_same}
 use Rattle.cata_core.proofs.MigrationLemmas.{keeps_catalogue_joins}
 use Rattle.json_docs.specs.Checks.{AllPass, AreJson, Check, rows_checks}
 use Rattle.json_docs.specs.Parts.{items_in, u32_in, u64_in}

@@ -5,8 +5,8 @@ use Rattle.std.specs.Prelude.{Option, None, Some, unwrap_or}
 use Rattle.serde_json.specs.Data.{Data}
 use Rattle.cell_core.specs.declared.fault.CellFault.{CellFault}
 use Rattle.lang_core.specs.declared.fault.LangFault.{LangFault}
-use Rattle.nego_core.specs.declared.fault.NegoFault.{NegoFault}
-use Rattle.nego_core.specs.declared.scheme.Scheme.{Scheme}
+use Rattle.list_core.specs.declared.fault.NegoFault.{NegoFault}
+use Rattle.list_core.specs.declared.scheme.Scheme.{Scheme}
 use Rattle.json_docs.specs.Checks.{AllPass, AreJson, Check, FirstFails, IsRefusal, IsTextRefusal}
 use Rattle.json_docs.specs.Checks.{check, rows_checks}
 use Rattle.row_docs.specs.Fields.{IsLabelRefusal, IsLabelText, cell_fields, key_of, label_check}

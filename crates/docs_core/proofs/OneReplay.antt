@@ -1,7 +1,7 @@
 -- A text is replayed as one text at most.
 use Rattle.std.proofs.Common.{◌≡◌, ◌∙◌, ℕ, List, [], ap, sym, subst}
 use Rattle.cata_core.specs.Held.{held}
-use Rattle.cata_core.proofs.UniqueAnswersLemmas.{one_by}
+use Rattle.cata_core.proofs.AnswerLemmas.{one_by}
 use Rattle.script_docs.proofs.OneScript.{one_script}
 use Rattle.query_docs.specs.Lines.{lines}
 use Rattle.docs_core.specs.Replays.{IsPlayed, Replays}

@@ -5,10 +5,11 @@ use Rattle.std.specs.Prelude.{◌↔◌, Contains, None, Option, Some, filter, i
 use Rattle.std.specs.Prelude.{option_map}
 use Rattle.std.specs.FinMap.Entries.{find}
 use Rattle.cell_core.specs.declared.cell.Cell.{Cell}
-use Rattle.cata_core.specs.Entries.{Entries, EntryKey, key_cmp}
-use Rattle.cata_core.specs.Parts.{part_of}
-use Rattle.cata_core.proofs.MembersLemmas.{Contains-from_in, filter_in, in_filter, in_from_Contains}
-use Rattle.cata_core.proofs.PartsLemmas.{find-part}
+use Rattle.cell_core.specs.Entry.{EntryKey, key_cmp}
+use Rattle.catalogue.specs.Entries.{Entries}
+use Rattle.catalogue.specs.Parts.{part_of}
+use Rattle.catalogue.proofs.MembersLemmas.{Contains-from_in, filter_in, in_filter, in_from_Contains}
+use Rattle.catalogue.proofs.PartsLemmas.{find-part}
 use Rattle.map_docs.specs.LangMaps.{Labelled}
 use Rattle.query_docs.specs.Exported.{live_labels}
 use Rattle.query_docs.specs.Outdated.{IsOutdatedMessage, is_before, is_outdated, labelled_at}

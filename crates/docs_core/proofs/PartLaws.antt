@@ -6,17 +6,18 @@ use Rattle.std.specs.FinMap.Entries.{find}
 use Rattle.std.specs.List.{cons_option}
 use Rattle.std.specs.Option.{is_none, option_and_then}
 use Rattle.std.specs.Ordering.{eq_by_cmp}
-use Rattle.cell_core.specs.Keyed.{same_maps}
-use Rattle.cata_core.specs.Entries.{Entries, EntryKey, key_cmp, key_cmp_exact, key_cmp_total}
-use Rattle.cata_core.specs.Parts.{part_of}
-use Rattle.cata_core.proofs.Basics.{some_same}
-use Rattle.cata_core.proofs.BestLemmas.{own_key, same_key}
-use Rattle.cata_core.proofs.FilteredLemmas.{filter-IsMap}
-use Rattle.cata_core.proofs.MembersLemmas.{Contains-from_in, In, filter_in, in_filter}
-use Rattle.cata_core.proofs.MembersLemmas.{in_from_Contains}
-use Rattle.cata_core.proofs.PartsLemmas.{find-part, part_looks_up_by}
-use Rattle.cata_core.specs.declared.reply.Reply.TheVariants.{Default, Matched}
-use Rattle.nego_core.specs.Item.{Item}
+use Rattle.cell_core.specs.KeyedLaws.{same_maps}
+use Rattle.cell_core.specs.Entry.{EntryKey, key_cmp, key_cmp_exact, key_cmp_total}
+use Rattle.catalogue.specs.Entries.{Entries}
+use Rattle.catalogue.specs.Parts.{part_of}
+use Rattle.catalogue.proofs.Basics.{some_same}
+use Rattle.catalogue.proofs.BestLemmas.{own_key, same_key}
+use Rattle.catalogue.proofs.FilteredLemmas.{filter-IsMap}
+use Rattle.catalogue.proofs.MembersLemmas.{Contains-from_in, In, filter_in, in_filter}
+use Rattle.catalogue.proofs.MembersLemmas.{in_from_Contains}
+use Rattle.catalogue.proofs.PartsLemmas.{find-part, part_looks_up_by}
+use Rattle.catalogue.specs.declared.reply.Reply.TheVariants.{Default, Matched}
+use Rattle.list_core.specs.Item.{Item}
 use Rattle.nego_core.specs.declared.widening.Widening.{Widening}
 use Rattle.map_docs.specs.LangMaps.{Labelled}
 use Rattle.query_docs.specs.Bundled.{IsAnswer, IsBundleBy}

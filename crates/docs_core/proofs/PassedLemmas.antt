@@ -4,7 +4,7 @@ use Rattle.std.specs.declared.cmp.Ordering.TheVariants.{Equal, Greater, Less}
 use Rattle.std.specs.FinMap.Entries.{find}
 use Rattle.std.specs.Ordering.{is_eq, is_lt}
 use Rattle.cell_core.specs.Keyed.{IsMap}
-use Rattle.cata_core.specs.Entries.{EntryKey, key_cmp}
+use Rattle.cell_core.specs.Entry.{EntryKey, key_cmp}
 use Rattle.cata_core.proofs.SummaryListsLemmas.{first_absent, first_found, not_greater}
 use Rattle.cata_core.proofs.SummaryListsLemmas.{not_greater_self, passed, passed_found}
 use Rattle.docs_core.specs.LackedRows.{IsPassed}

@@ -2,7 +2,7 @@
 use Rattle.std.proofs.Common.{◌≡◌, ◌∙◌, ℕ, List, Bool, true, false, ap, inl, inr, refl}
 use Rattle.std.specs.Prelude.{◌≢◌, ◌⊎◌, IfErr, IfOk, MatchResult, OnOk, Result, Ok, Err, is_err}
 use Rattle.cata_core.specs.Answer.{AreAnswers, AreHeldAnswers}
-use Rattle.cata_core.specs.Edits.{IsConsistent}
+use Rattle.catalogue.specs.Edits.{IsConsistent}
 use Rattle.cata_core.specs.PlayFault.{IsFirstFault, IsNoClash, NoDelivers, NoneFaulty}
 use Rattle.cata_core.specs.Taken.{edits_of}
 use Rattle.cata_core.specs.declared.answer.Answer.{Answer}

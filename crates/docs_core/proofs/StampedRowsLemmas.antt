@@ -9,26 +9,28 @@ use Rattle.std.specs.declared.cmp.Ordering.TheVariants.{Greater, Less}
 use Rattle.std.specs.FinMap.Entries.{below_all, find, find-put, is_sorted, is_sorted-put, put}
 use Rattle.std.specs.Ordering.{eq_by_cmp, ordering_reverse}
 use Rattle.cell_core.specs.Cell.{AgreeCells, joined_cells, stamp_cmp_total}
-use Rattle.cell_core.specs.Keyed.{IsMap, find-joined_maps, joined_if_both, joined_maps-IsMap}
-use Rattle.cell_core.specs.Keyed.{joined_of_maps, same_maps}
+use Rattle.cell_core.specs.Keyed.{IsMap, joined_if_both}
+use Rattle.cell_core.specs.KeyedLaws.{find-joined_maps, joined_maps-IsMap}
+use Rattle.cell_core.specs.KeyedLaws.{joined_of_maps, same_maps}
 use Rattle.cell_core.specs.Stamp.{IsAbove, IsNext, stamp_cmp}
 use Rattle.cell_core.specs.declared.cell.Cell.{Cell}
 use Rattle.cell_core.specs.declared.stamp.Stamp.{Stamp}
-use Rattle.cata_core.specs.Entries.{Agree, Entries, Entry, EntryKey, IsAboveAll, joined, key_cmp}
-use Rattle.cata_core.specs.Entries.{key_cmp_exact, key_cmp_total}
-use Rattle.cata_core.specs.Latest.{latest_of}
-use Rattle.cata_core.proofs.Basics.{first_part, second_part, tied}
-use Rattle.cata_core.proofs.BehindLemmas.{front_below}
-use Rattle.cata_core.proofs.FilteredLemmas.{find-below}
+use Rattle.cell_core.specs.Entry.{EntryKey, key_cmp}
+use Rattle.catalogue.specs.Entries.{Agree, Entries, Entry, IsAboveAll, joined}
+use Rattle.cell_core.specs.Entry.{key_cmp_exact, key_cmp_total}
+use Rattle.catalogue.specs.Latest.{latest_of}
+use Rattle.catalogue.proofs.BehindLemmas.{front_below}
+use Rattle.catalogue.proofs.FilteredLemmas.{find-below}
 use Rattle.cata_core.proofs.JoinTurnsLemmas.{agrees_back, joined_back}
-use Rattle.cata_core.proofs.LatestLemmas.{held_less, latest_put}
+use Rattle.catalogue.proofs.LatestLemmas.{held_less, latest_put}
 use Rattle.map_docs.specs.LangMaps.{Labelled}
-use Rattle.map_docs.proofs.LangMapMembersLemmas.{first_left}
 use Rattle.docs_core.specs.Imported.{puts_of}
 use Rattle.docs_core.specs.Made.{Change, Makes}
 use Rattle.docs_core.specs.StampedRows.{AreStamped, HoldsStamped}
 use Rattle.docs_core.specs.SyncedRows.{IsSyncedTo}
 use Rattle.docs_core.specs.declared.call.stamped_rows.StampedRows.{StampedRows}
+use Rattle.cell_core.proofs.Basics.{first_part, second_part, tied_order as tied}
+use Rattle.list_core.proofs.Basics.{element_at as first_left}
 use Rattle.docs_core.proofs.JoinedRowsLemmas.{apart_agrees, joined_first, joined_later}
 use Rattle.docs_core.proofs.LackedRowsLemmas.{above_before, above_one}
 

@@ -1,6 +1,6 @@
 -- The rows of a site that are joined with those of another document as both are read.
 use Rattle.std.proofs.Common.{◌≡◌, ◌≢◌, ◌∙◌, ◌++◌, [], ◌∷◌, ℕ, List, Option, Some, None, append-nil}
-use Rattle.std.proofs.Common.{false, refl, subst, sym, true, true≢false}
+use Rattle.std.proofs.Common.{false, refl, subst, sym, true≢false}
 use Rattle.std.proofs.lemmas.List.Elements.{All-append, All-cons, All-nil}
 use Rattle.std.specs.Prelude.{All, IfSome}
 use Rattle.std.specs.Ordering.{is_eq, is_lt}
@@ -8,7 +8,8 @@ use Rattle.std.specs.declared.cmp.Ordering.{Ordering}
 use Rattle.std.specs.declared.cmp.Ordering.TheVariants.{Equal, Greater, Less}
 use Rattle.cell_core.specs.Cell.{AgreeCells, joined_cells}
 use Rattle.cell_core.specs.declared.cell.Cell.{Cell}
-use Rattle.cata_core.specs.Entries.{Agree, Entries, Entry, EntryKey, IsAboveAll, joined, key_cmp}
+use Rattle.cell_core.specs.Entry.{EntryKey, key_cmp}
+use Rattle.catalogue.specs.Entries.{Agree, Entries, Entry, IsAboveAll, joined}
 use Rattle.cell_core.specs.Keyed.{IsMap}
 use Rattle.site_docs.specs.RowsDraft.{HoldsRows}
 use Rattle.site_docs.specs.WrittenRows.{HasRead, current_of}
@@ -16,7 +17,7 @@ use Rattle.site_docs.specs.declared.plain.written_rows.WrittenRows.{WrittenRows}
 use Rattle.site_docs.specs.declared.rows_draft.RowsDraft.{RowsDraft}
 use Rattle.docs_core.specs.JoinedRows.{IsFirstGreater, IsJoiningAll, IsJoiningAs, IsJoiningBefore}
 use Rattle.docs_core.specs.SyncedRows.{IsSynced, IsSyncedAll, IsSyncedBefore, IsSyncedTo, order_to}
-use Rattle.docs_core.specs.TimeLimits.{AreInTime, IsInTime}
+use Rattle.site_docs.specs.RowsInTime.{AreInTime, IsInTime}
 use Rattle.docs_core.proofs.JoinedRowsLemmas.{joining_agrees, joining_ends, joining_equal}
 use Rattle.docs_core.proofs.JoinedRowsLemmas.{joining_next, joining_own}
 
@@ -208,12 +209,6 @@ pub some_both : {X : Type 0} (r : Option X) {P Q R : X → Type 0} → IfSome r 
     → ((x : X) → P x → Q x → R x) → IfSome r R
 some_both None p q then = tt
 some_both (Some x) p q then = then x p q
-
--- less, where it is tested so
-pub lt_less : (r : Ordering) → is_lt r ≡ true → r ≡ Less
-lt_less Less is = refl
-lt_less Equal is = absurd (true≢false (sym is))
-lt_less Greater is = absurd (true≢false (sym is))
 
 -- not less, where it is tested so
 pub not_less : (r : Ordering) → is_lt r ≡ false → r ≢ Less

@@ -7,22 +7,25 @@ use Rattle.std.specs.FinMap.Entries.{find}
 use Rattle.std.specs.Ordering.{eq_by_cmp, is_lt}
 use Rattle.std.proofs.lemmas.List.Elements.{All-contains, All-nil, All-push}
 use Rattle.cell_core.specs.Cell.{cell_laws, joined_cells}
-use Rattle.cell_core.specs.Keyed.{find-joined_maps, joined_if_both}
+use Rattle.cell_core.specs.Keyed.{joined_if_both}
+use Rattle.cell_core.specs.KeyedLaws.{find-joined_maps}
 use Rattle.cell_core.specs.Stamp.{stamp_cmp}
 use Rattle.cell_core.specs.declared.cell.Cell.{Cell}
-use Rattle.cata_core.specs.Entries.{Agree, Entries, Entry, EntryKey, catalogue_laws, joined}
-use Rattle.cata_core.specs.Entries.{key_cmp, key_cmp_total}
+use Rattle.cell_core.specs.Entry.{EntryKey}
+use Rattle.catalogue.specs.Entries.{Agree, Entries, Entry, catalogue_laws, joined}
+use Rattle.cell_core.specs.Entry.{key_cmp, key_cmp_total}
 use Rattle.cata_core.specs.Site.{SiteState}
 use Rattle.cata_core.specs.declared.delta.Delta.{Delta}
-use Rattle.cata_core.proofs.Basics.{append_nil, some_same}
-use Rattle.cata_core.proofs.BestLemmas.{same_key}
-use Rattle.cata_core.proofs.MembersLemmas.{Contains-from_in, In}
+use Rattle.catalogue.proofs.Basics.{append_nil, some_same}
+use Rattle.catalogue.proofs.BestLemmas.{same_key}
+use Rattle.catalogue.proofs.MembersLemmas.{Contains-from_in, In}
 use Rattle.json_docs.specs.Checks.{OrMemory}
 use Rattle.json_docs.specs.declared.fault.DocFault.{DocFault}
 use Rattle.row_docs.specs.Reading.{no_memory}
 use Rattle.site_docs.specs.ReadsAs.{ReadsAsDelta, ReadsAsSite}
 use Rattle.docs_core.specs.Calls.{AreSynced, IsTaken, RefusesSync, RefusesTaking}
-use Rattle.docs_core.specs.TimeLimits.{AreInTime, AreSyncedUntil, IsFirstAhead, IsInTime}
+use Rattle.docs_core.specs.TimeLimits.{AreSyncedUntil}
+use Rattle.site_docs.specs.RowsInTime.{AreInTime, IsFirstAhead, IsInTime}
 use Rattle.docs_core.specs.TimeLimits.{IsTakenUntil, RefusesSyncUntil, RefusesTakingUntil}
 use Rattle.map_docs.proofs.LangMapLabelsLemmas.{else_by}
 use Rattle.site_docs.proofs.OneDocument.{one_delta, one_site}

@@ -4,12 +4,13 @@ use Rattle.std.proofs.Common.{inl, inr}
 use Rattle.std.specs.Prelude.{◌⊎◌, None, Option, Some}
 use Rattle.std.specs.Ordering.{eq_by_cmp}
 use Rattle.std.specs.FinMap.Entries.{below_all, find, find-put, is_sorted, is_sorted-put}
-use Rattle.cell_core.specs.Keyed.{IsMap, same_maps}
+use Rattle.cell_core.specs.Keyed.{IsMap}
+use Rattle.cell_core.specs.KeyedLaws.{same_maps}
 use Rattle.cell_core.specs.declared.cell.Cell.{Cell}
-use Rattle.cata_core.specs.Entries.{Entries, EntryKey, key_cmp, key_cmp_exact, key_cmp_total}
+use Rattle.cell_core.specs.Entry.{EntryKey, key_cmp, key_cmp_exact, key_cmp_total}
+use Rattle.catalogue.specs.Entries.{Entries}
 use Rattle.cata_core.specs.Site.{SiteState}
-use Rattle.cata_core.proofs.Basics.{first_part, second_part}
-use Rattle.cata_core.proofs.FilteredLemmas.{find-below}
+use Rattle.catalogue.proofs.FilteredLemmas.{find-below}
 use Rattle.site_docs.specs.Documents.{site_text}
 use Rattle.site_docs.specs.ReadsAs.{ReadsAsSite}
 use Rattle.map_docs.specs.LangMapLabels.{AreLangMaps}
@@ -20,7 +21,9 @@ use Rattle.docs_core.specs.Made.{Change, Makes, with_change}
 use Rattle.docs_core.specs.Updated.{AreChanges, IsChangeAt, IsUpdated, Texts, Updates}
 use Rattle.map_docs.proofs.LangMapLawsLemmas.{same_labels}
 use Rattle.site_docs.proofs.OneDocument.{one_site}
-use Rattle.docs_core.proofs.UpdatedLemmas.{one_change, one_key}
+use Rattle.cell_core.proofs.Basics.{first_part, second_part}
+use Rattle.catalogue.proofs.BestLemmas.{same_key as one_key}
+use Rattle.docs_core.proofs.UpdatedLemmas.{one_change}
 
 -- ---- changes that were made
 

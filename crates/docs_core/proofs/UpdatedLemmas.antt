@@ -7,9 +7,8 @@ use Rattle.std.specs.Prelude.{◌&&◌, None, Option, Some, T, is_some, option_m
 use Rattle.std.specs.Prelude.{slice_index_or}
 use Rattle.std.specs.Bool.{Decides}
 use Rattle.std.specs.Option.{option_eq}
-use Rattle.std.specs.Ordering.{eq_by_cmp, is_eq, is_lt, ordering_reverse}
+use Rattle.std.specs.Ordering.{eq_by_cmp, is_lt, ordering_reverse}
 use Rattle.std.specs.declared.cmp.Ordering.TheVariants.{Equal, Greater, Less}
-use Rattle.std.specs.Cmp.{tied_itself}
 use Rattle.std.specs.Cmp.Lexicographic.{pointwise}
 use Rattle.std.specs.FinMap.Entries.{below_all, find, find-put, is_sorted, is_sorted-put, put}
 use Rattle.std.proofs.Common.{nat_eq}
@@ -18,11 +17,11 @@ use Rattle.cell_core.specs.Stamp.{NoNext}
 use Rattle.cell_core.specs.declared.cell.Cell.{Cell}
 use Rattle.cell_core.specs.declared.stamp.Stamp.{Stamp}
 use Rattle.cell_core.proofs.CellLemmas.{label_decides}
-use Rattle.cata_core.specs.Entries.{Entries, EntryKey, key_cmp, key_cmp_exact, key_cmp_total}
-use Rattle.cata_core.specs.Latest.{latest_of}
-use Rattle.cata_core.proofs.Basics.{both_parts, first_part, less_than, second_part, tied}
-use Rattle.cata_core.proofs.FilteredLemmas.{find-below}
-use Rattle.cata_core.proofs.KeyPlacesLemmas.{below_lesser}
+use Rattle.cell_core.specs.Entry.{EntryKey, key_cmp, key_cmp_exact, key_cmp_total}
+use Rattle.catalogue.specs.Entries.{Entries}
+use Rattle.catalogue.specs.Latest.{latest_of}
+use Rattle.catalogue.proofs.FilteredLemmas.{find-below}
+use Rattle.catalogue.proofs.KeyPlacesLemmas.{below_lesser}
 use Rattle.map_docs.specs.LangMaps.{Labelled}
 use Rattle.query_docs.specs.Exported.{label_at}
 use Rattle.query_docs.proofs.LiveLemmas.{label_in}
@@ -31,15 +30,9 @@ use Rattle.docs_core.specs.Revised.{IsFirstRevised, IsHead, IsRevised, NoStamp, 
 use Rattle.docs_core.specs.Revised.{old_of}
 use Rattle.docs_core.specs.Updated.{AreChanges, IsChangeAt, SpendsUpdate, Texts, Updates}
 use Rattle.docs_core.specs.declared.call.revised.Revised.{Revised}
+use Rattle.catalogue.proofs.BestLemmas.{same_key as one_key, own_key as itself}
+use Rattle.cell_core.proofs.Basics.{both_parts, first_part, less_than, second_part}
 use Rattle.docs_core.proofs.MadeLemmas.{Makes-append, Spends-append}
-
--- keys that tie are one
-pub one_key : (q k : EntryKey) → eq_by_cmp key_cmp q k ≡ true → q ≡ k
-one_key q k t = key_cmp_exact q k (tied (key_cmp q k) t)
-
--- a key ties with itself
-pub itself : (k : EntryKey) → eq_by_cmp key_cmp k k ≡ true
-itself k = ap is_eq (tied_itself key_cmp_total k)
 
 -- labels that are borrowed are the same where the comparison says so
 pub borrowed_decides : (x y : Option (Bor (List (List ℕ))))

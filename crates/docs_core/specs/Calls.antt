@@ -3,14 +3,15 @@ use Rattle.std.specs.Prelude.{◌≡◌, ◌≢◌, ◌⊎◌, ℕ, List, Option
 use Rattle.std.specs.FinMap.Entries.{put}
 use Rattle.cell_core.specs.Stamp.{IsNext}
 use Rattle.cell_core.specs.declared.stamp.Stamp.{Stamp}
-use Rattle.cata_core.specs.CataFault.{IsRefusal}
+use Rattle.catalogue.specs.CataFault.{IsRefusal}
 use Rattle.cata_core.specs.Delta.{delta_of, summary_of}
-use Rattle.cata_core.specs.Entries.{Agree, EntryKey, joined, key_cmp}
-use Rattle.cata_core.specs.Latest.{latest_of}
+use Rattle.cell_core.specs.Entry.{EntryKey, key_cmp}
+use Rattle.catalogue.specs.Entries.{Agree, joined}
+use Rattle.catalogue.specs.Latest.{latest_of}
 use Rattle.cata_core.specs.Site.{RefusesDelta as NotTaken, RefusesEdit, SiteState}
 use Rattle.cata_core.specs.Summary.{SummaryState}
-use Rattle.cata_core.specs.declared.cata_fault.CataFault.{CataFault}
-use Rattle.cata_core.specs.declared.cata_fault.CataFault.TheVariants.{NoMemory}
+use Rattle.catalogue.specs.declared.cata_fault.CataFault.{CataFault}
+use Rattle.catalogue.specs.declared.cata_fault.CataFault.TheVariants.{NoMemory}
 use Rattle.cata_core.specs.declared.delta.Delta.{Delta}
 use Rattle.json_docs.specs.Faults.{of_no_document, of_site}
 use Rattle.json_docs.specs.declared.fault.DocFault.{DocFault}

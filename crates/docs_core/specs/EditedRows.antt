@@ -2,8 +2,9 @@
 use Rattle.std.specs.Prelude.{◌≡◌, filter, true}
 use Rattle.std.specs.declared.cmp.Ordering.TheVariants.{Less}
 use Rattle.std.specs.Ordering.{is_gt, is_lt}
-use Rattle.cata_core.specs.Entries.{Entries, EntryKey, IsAboveAll, key_cmp}
-use Rattle.cata_core.specs.Latest.{latest_of}
+use Rattle.cell_core.specs.Entry.{EntryKey, key_cmp}
+use Rattle.catalogue.specs.Entries.{Entries, IsAboveAll}
+use Rattle.catalogue.specs.Latest.{latest_of}
 use Rattle.site_docs.specs.RowsDraft.{HoldsRows}
 use Rattle.docs_core.specs.declared.call.edited_rows.EditedRows.{EditedRows}
 

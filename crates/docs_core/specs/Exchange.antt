@@ -1,8 +1,8 @@
 -- What an import answers, and which refusals (JSON-LD 1.1, section 9.8; project rules).
 use Rattle.std.specs.Prelude.{◌≡◌, ◌⊎◌, ℕ, List}
-use Rattle.cata_core.specs.Entries.{Entries}
+use Rattle.catalogue.specs.Entries.{Entries}
 use Rattle.cata_core.specs.Site.{SiteState}
-use Rattle.cata_core.specs.declared.cata_fault.CataFault.TheVariants.{ClockSpent}
+use Rattle.catalogue.specs.declared.cata_fault.CataFault.TheVariants.{ClockSpent}
 use Rattle.json_docs.specs.Faults.{of_no_document, of_site}
 use Rattle.json_docs.specs.declared.fault.DocFault.{DocFault}
 use Rattle.row_docs.specs.Reading.{IsOfDocument}

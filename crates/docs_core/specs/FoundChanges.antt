@@ -2,8 +2,9 @@
 use Rattle.std.specs.Prelude.{◌≡◌, ◌≢◌, ◌⊎◌, ◌++◌, [], ◌∷◌, List, None, Some, map, option_map}
 use Rattle.std.specs.FinMap.Entries.{find}
 use Rattle.cell_core.specs.Keyed.{IsMap}
-use Rattle.cata_core.specs.Entries.{Entries, EntryKey, IsAboveAll, key_cmp}
-use Rattle.cata_core.specs.Latest.{latest_of}
+use Rattle.cell_core.specs.Entry.{EntryKey, key_cmp}
+use Rattle.catalogue.specs.Entries.{Entries, IsAboveAll}
+use Rattle.catalogue.specs.Latest.{latest_of}
 use Rattle.map_docs.specs.LangMaps.{Labelled, labels_of}
 use Rattle.docs_core.specs.Made.{Change}
 use Rattle.docs_core.specs.Revised.{key_of, new_of, old_of}

@@ -1,6 +1,6 @@
 -- Labels that are put one after another.
 use Rattle.std.specs.Prelude.{ℕ, List, Some, map}
-use Rattle.cata_core.specs.Entries.{Entries}
+use Rattle.catalogue.specs.Entries.{Entries}
 use Rattle.map_docs.specs.LangMaps.{Labelled}
 use Rattle.docs_core.specs.Made.{Change, Makes, SpendsClock}
 

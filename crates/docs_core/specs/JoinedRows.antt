@@ -5,10 +5,11 @@ use Rattle.cell_core.specs.Cell.{AgreeCells, joined_cells}
 use Rattle.cell_core.specs.Keyed.{AgreeAtKeys, IsMap, joined_entries}
 use Rattle.cell_core.specs.declared.cell.Cell.{Cell}
 use Rattle.cell_core.specs.declared.stamp.Stamp.{Stamp}
-use Rattle.cata_core.specs.Cells.{cells_left}
-use Rattle.cata_core.specs.ChangesLeft.{ahead_of}
-use Rattle.cata_core.specs.Clash.{IsFirstClash}
-use Rattle.cata_core.specs.Entries.{Entries, Entry, EntryKey, IsAboveAll, key_cmp}
+use Rattle.catalogue.specs.Cells.{cells_left}
+use Rattle.catalogue.specs.ChangesLeft.{ahead_of}
+use Rattle.catalogue.specs.Clash.{IsFirstClash}
+use Rattle.cell_core.specs.Entry.{EntryKey, key_cmp}
+use Rattle.catalogue.specs.Entries.{Entries, Entry, IsAboveAll}
 use Rattle.site_docs.specs.RowsDraft.{HoldsRows}
 use Rattle.site_docs.specs.declared.rows_draft.RowsDraft.{RowsDraft}
 use Rattle.docs_core.specs.declared.call.joined_rows.Agreement.{Agreement}

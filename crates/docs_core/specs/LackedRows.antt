@@ -3,7 +3,8 @@ use Rattle.std.specs.Prelude.{◌≡◌, List, drop}
 use Rattle.std.specs.declared.cmp.Ordering.TheVariants.{Less}
 use Rattle.std.specs.FinMap.Entries.{find}
 use Rattle.cata_core.specs.Delta.{Stamps, delta_of}
-use Rattle.cata_core.specs.Entries.{Entries, EntryKey, IsAboveAll, key_cmp}
+use Rattle.cell_core.specs.Entry.{EntryKey, key_cmp}
+use Rattle.catalogue.specs.Entries.{Entries, IsAboveAll}
 use Rattle.site_docs.specs.RowsDraft.{HoldsRows}
 use Rattle.docs_core.specs.declared.call.lacked_rows.LackedRows.{LackedRows}
 

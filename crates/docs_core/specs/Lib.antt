@@ -11,7 +11,6 @@ pub mod Merged
 pub mod OldSites
 pub mod Replays
 pub mod Revised
-pub mod RowsInTime
 pub mod StampedRows
 pub mod SyncedRows
 pub mod TimeLimits

@@ -2,16 +2,16 @@
 use Rattle.std.specs.Prelude.{◌≡◌, ◌⊎◌, ◌++◌, ◌∷◌, ◌+◌, ℕ, All, Bool, Contains, List, [], Option}
 use Rattle.std.specs.Prelude.{length}
 use Rattle.std.specs.List.{AllZip}
-use Rattle.cata_core.specs.CataFault.{IsRefusal}
-use Rattle.cata_core.specs.Entries.{Agree, Entries, joined}
-use Rattle.cata_core.specs.Parts.{part_of}
+use Rattle.catalogue.specs.CataFault.{IsRefusal}
+use Rattle.catalogue.specs.Entries.{Agree, Entries, joined}
+use Rattle.catalogue.specs.Parts.{part_of}
 use Rattle.cata_core.specs.Site.{SiteState}
 use Rattle.json_docs.specs.declared.fault.DocFault.{DocFault}
 use Rattle.row_docs.specs.Reading.{IsOfDocument}
 use Rattle.site_docs.specs.ReadsAs.{IsSiteText, ReadsAsSite, RefusesSite}
 use Rattle.docs_core.specs.Calls.{IsOfSite}
 use Rattle.docs_core.specs.Lines.{documents_of}
-use Rattle.docs_core.specs.TimeLimits.{AreInTime, IsTimeAhead}
+use Rattle.site_docs.specs.RowsInTime.{AreInTime, IsTimeAhead}
 
 -- the cells with those of each of the sites joined to them, in order
 abbrev pub joined_all : Entries → List SiteState → Entries

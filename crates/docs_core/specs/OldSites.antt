@@ -4,7 +4,7 @@ use Rattle.std.specs.Prelude.{◌≡◌, ◌<◌, ◌^◌, All, Some, ⊤}
 use Rattle.std.specs.FinMap.Entries.{find}
 use Rattle.cell_core.specs.Keyed.{IsMap}
 use Rattle.cell_core.specs.Migration.{IsOldStamp, OldStamp}
-use Rattle.cata_core.specs.Entries.{EntryKey, key_cmp}
+use Rattle.cell_core.specs.Entry.{EntryKey, key_cmp}
 use Rattle.cata_core.specs.Migration.{IsOldMap, OldDelta, OldSite, OldStamps, OldSummary}
 use Rattle.cata_core.specs.OldSteps.{OldEdit, OldStep}
 use Rattle.script_docs.specs.OldScripts.{OldScript}

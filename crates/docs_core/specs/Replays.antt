@@ -1,7 +1,7 @@
 -- A script from bytes to bytes. Project rule.
 use Rattle.std.specs.Prelude.{◌≡◌, ◌≢◌, ◌⊎◌, List, ℕ}
 use Rattle.cata_core.specs.Answer.{AreAnswers, AreHeldAnswers}
-use Rattle.cata_core.specs.Edits.{IsConsistent}
+use Rattle.catalogue.specs.Edits.{IsConsistent}
 use Rattle.cata_core.specs.PlayFault.{IsFirstFault, IsNoClash, NoDelivers, NoneFaulty}
 use Rattle.cata_core.specs.Taken.{edits_of}
 use Rattle.cata_core.specs.declared.answer.Answer.{Answer}

@@ -6,8 +6,9 @@ use Rattle.std.specs.FinMap.Entries.{below_all, find}
 use Rattle.cell_core.specs.Keyed.{IsMap}
 use Rattle.cell_core.specs.Stamp.{IsNext, NoNext}
 use Rattle.cell_core.specs.declared.stamp.Stamp.{Stamp}
-use Rattle.cata_core.specs.Entries.{Entries, EntryKey, key_cmp}
-use Rattle.cata_core.specs.Latest.{latest_of}
+use Rattle.cell_core.specs.Entry.{EntryKey, key_cmp}
+use Rattle.catalogue.specs.Entries.{Entries}
+use Rattle.catalogue.specs.Latest.{latest_of}
 use Rattle.map_docs.specs.LangMaps.{Labelled}
 use Rattle.query_docs.specs.Exported.{label_at}
 use Rattle.docs_core.specs.Made.{with_change}

@@ -2,7 +2,8 @@
 use Rattle.std.specs.Prelude.{◌≡◌, ◌++◌, ℕ, List, [], ◌∷◌, None, Option, Some}
 use Rattle.cell_core.specs.Stamp.{IsNext}
 use Rattle.cell_core.specs.declared.stamp.Stamp.{Stamp}
-use Rattle.cata_core.specs.Entries.{Entries, EntryKey, IsAboveAll}
+use Rattle.cell_core.specs.Entry.{EntryKey}
+use Rattle.catalogue.specs.Entries.{Entries, IsAboveAll}
 use Rattle.docs_core.specs.Made.{Change}
 use Rattle.docs_core.specs.SyncedRows.{IsSyncedTo}
 use Rattle.docs_core.specs.declared.call.stamped_rows.StampedRows.{StampedRows}

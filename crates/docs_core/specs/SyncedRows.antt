@@ -2,13 +2,14 @@
 use Rattle.std.specs.Prelude.{ℕ, List, [], ◌∷◌, MatchOption, Option, ⊤}
 use Rattle.std.specs.declared.cmp.Ordering.{Ordering}
 use Rattle.std.specs.declared.cmp.Ordering.TheVariants.{Greater}
-use Rattle.cata_core.specs.Entries.{Entries, EntryKey, key_cmp}
+use Rattle.cell_core.specs.Entry.{EntryKey, key_cmp}
+use Rattle.catalogue.specs.Entries.{Entries}
 use Rattle.site_docs.specs.RowsDraft.{HoldsRows}
 use Rattle.site_docs.specs.WrittenRows.{HasRead, current_of}
 use Rattle.site_docs.specs.declared.plain.written_rows.WrittenRows.{WrittenRows}
 use Rattle.site_docs.specs.declared.rows_draft.RowsDraft.{RowsDraft}
 use Rattle.docs_core.specs.JoinedRows.{IsJoining, IsJoiningAll, IsJoiningBefore}
-use Rattle.docs_core.specs.TimeLimits.{AreInTime}
+use Rattle.site_docs.specs.RowsInTime.{AreInTime}
 use Rattle.docs_core.specs.declared.call.synced_rows.SyncedRows.{SyncedRows}
 
 -- how the key of the first of these is ordered to this one; greater where there is none

@@ -1,42 +1,15 @@
 -- A limit on the times of what comes in, and what the calls answer under it. Project rule.
-use Rattle.std.specs.Prelude.{◌≡◌, ◌⊎◌, ◌++◌, ◌∷◌, ◌<◌, ◌≤◌, ℕ, All, List, None, Option, Some, ⊤}
-use Rattle.std.specs.Prelude.{length}
-use Rattle.cata_core.specs.CataFault.{IsRefusal}
-use Rattle.cata_core.specs.Entries.{Agree, Entries, Entry, joined}
+use Rattle.std.specs.Prelude.{◌≡◌, ◌⊎◌, ℕ, List, Option}
+use Rattle.catalogue.specs.CataFault.{IsRefusal}
+use Rattle.catalogue.specs.Entries.{Agree, Entries, joined}
 use Rattle.cata_core.specs.Site.{RefusesDelta as NotTaken, SiteState}
 use Rattle.cata_core.specs.declared.delta.Delta.{Delta}
-use Rattle.json_docs.specs.declared.fault.DocCause.TheVariants.{TimeAhead}
 use Rattle.json_docs.specs.declared.fault.DocFault.{DocFault}
 use Rattle.row_docs.specs.Reading.{IsOfDocument}
 use Rattle.site_docs.specs.ReadsAs.{IsSiteText, ReadsAsDelta, ReadsAsSite}
 use Rattle.site_docs.specs.ReadsAs.{RefusesDelta, RefusesSite}
 use Rattle.docs_core.specs.Calls.{IsOfSite}
-
--- the time of the cell is not after the limit
-abbrev pub IsInTime : ℕ → Entry → Type 0
-IsInTime limit e = e.1.stamp.time ≤ limit
-
--- no time is after the limit, where there is one
-abbrev pub AreInTime : Option ℕ → Entries → Type 0
-AreInTime None cells = ⊤
-AreInTime (Some limit) cells = All (IsInTime limit) cells
-
--- the row is that of the first cell whose time is after the limit
-pub record IsFirstAhead (cells : Entries) (limit row : ℕ) : Type 0 where
-  pub before : Entries
-  pub ahead : Entry
-  pub after : Entries
-  pub cells_are : cells ≡ before ++ ahead ∷ after
-  pub row_is : length before ≡ row
-  pub in_time : All (IsInTime limit) before
-  pub is_ahead : limit < ahead.1.stamp.time
-
--- it refuses this input document with that row
-abbrev pub IsTimeAhead : ℕ → Option ℕ → Entries → DocFault → Type 0
-IsTimeAhead document None cells fault = ⊥
-IsTimeAhead document (Some limit) cells fault =
-    (row : ℕ) × IsFirstAhead cells limit row
-    × (fault ≡ record { document = document; cause = TimeAhead row })
+use Rattle.site_docs.specs.RowsInTime.{AreInTime, IsTimeAhead}
 
 -- ---- deltas
 

@@ -2,9 +2,10 @@
 use Rattle.std.specs.Prelude.{◌≡◌, ◌≢◌, ◌⊎◌, ℕ, List, Option, None, Some}
 use Rattle.std.specs.FinMap.Entries.{find}
 use Rattle.cell_core.specs.Keyed.{IsMap}
-use Rattle.cata_core.specs.Entries.{Entries, EntryKey, key_cmp}
+use Rattle.cell_core.specs.Entry.{EntryKey, key_cmp}
+use Rattle.catalogue.specs.Entries.{Entries}
 use Rattle.cata_core.specs.Site.{SiteState}
-use Rattle.cata_core.specs.declared.cata_fault.CataFault.TheVariants.{ClockSpent}
+use Rattle.catalogue.specs.declared.cata_fault.CataFault.TheVariants.{ClockSpent}
 use Rattle.json_docs.specs.Faults.{of_no_document, of_site}
 use Rattle.json_docs.specs.declared.fault.DocFault.{DocFault}
 use Rattle.row_docs.specs.Reading.{IsOfDocument}

@@ -9,7 +9,6 @@ pub(crate) mod latest_stamp;
 pub(crate) mod merging;
 pub(crate) mod replaying;
 pub(crate) mod revised;
-pub(crate) mod rows_in_time;
 pub(crate) mod sites;
 pub(crate) mod stamped_rows;
 pub(crate) mod synced_rows;

@@ -1,9 +1,9 @@
 -- The questions of C (project rules).
 use Rattle.std.specs.Prelude.{◌==◌, ◌∷◌, [], ℕ, List, Option, None, Some, if◌then◌else◌}
-use Rattle.nego_core.specs.declared.field.Malformed.{Malformed}
-use Rattle.nego_core.specs.declared.field.Malformed.TheVariants.{Refused, PassedOver}
-use Rattle.nego_core.specs.declared.scheme.Scheme.{Scheme}
-use Rattle.nego_core.specs.declared.scheme.Scheme.TheVariants.{Basic, Extended}
+use Rattle.list_core.specs.declared.field.Malformed.{Malformed}
+use Rattle.list_core.specs.declared.field.Malformed.TheVariants.{Refused, PassedOver}
+use Rattle.list_core.specs.declared.scheme.Scheme.{Scheme}
+use Rattle.list_core.specs.declared.scheme.Scheme.TheVariants.{Basic, Extended}
 use Rattle.nego_core.specs.declared.widening.Widening.TheVariants.{By, Off}
 use Rattle.front_core.specs.Preferences.{FieldText}
 

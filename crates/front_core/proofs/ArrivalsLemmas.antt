@@ -9,43 +9,44 @@ use Rattle.std.specs.Option.{option_copied, option_eq}
 use Rattle.std.specs.Cmp.Lexicographic.{pointwise}
 use Rattle.std.proofs.lemmas.Bool.Decides.{Decides-and, Decides-like}
 use Rattle.cell_core.proofs.CellLemmas.{label_decides, stamp_decides, stamp_eq}
-use Rattle.cata_core.specs.Equality.{cell_eq}
+use Rattle.catalogue.specs.Equality.{cell_eq}
 use Rattle.std.specs.Ordering.{eq_by_cmp, is_eq}
 use Rattle.std.specs.Cmp.{tied_itself}
 use Rattle.std.specs.FinMap.Entries.{find, find-put, is_sorted-put}
 use Rattle.cell_core.specs.declared.cell.Cell.{Cell}
 use Rattle.cell_core.specs.Cell.{AgreeCells, cell_laws, joined_cells}
-use Rattle.cell_core.specs.Keyed.{AgreeIfBoth, IsMap, also_map, at_of, find-joined_maps}
-use Rattle.cell_core.specs.Keyed.{joined_if_both, joined_maps-IsMap, same_maps}
+use Rattle.cell_core.specs.Keyed.{AgreeIfBoth, IsMap}
+use Rattle.cell_core.specs.KeyedLaws.{also_map, at_of, find-joined_maps}
+use Rattle.cell_core.specs.Keyed.{joined_if_both}
+use Rattle.cell_core.specs.KeyedLaws.{joined_maps-IsMap, same_maps}
 use Rattle.cata_core.specs.Delta.{IsPart}
-use Rattle.cata_core.specs.Entries.{Agree, Entries, Entry, EntryKey, IsBelowCells, joined}
-use Rattle.cata_core.specs.Entries.{catalogue_laws, key_cmp, key_cmp_exact, key_cmp_total}
+use Rattle.cell_core.specs.Entry.{EntryKey}
+use Rattle.catalogue.specs.Entries.{Agree, Entries, Entry, IsBelowCells, joined}
+use Rattle.cell_core.specs.Entry.{key_cmp, key_cmp_exact, key_cmp_total}
+use Rattle.catalogue.specs.Entries.{catalogue_laws}
 use Rattle.cata_core.specs.Site.{SiteState}
-use Rattle.cata_core.proofs.ApplyLemmas.{with_none}
+use Rattle.catalogue.proofs.ApplyLemmas.{with_none}
 use Rattle.cata_core.proofs.OwnEditsLemmas.{own_rises}
 use Rattle.map_docs.specs.LangMaps.{Labelled, labels_of}
 use Rattle.map_docs.specs.declared.maps.KeyedLabel.{KeyedLabel}
-use Rattle.map_docs.proofs.LangMapMembersLemmas.{first_left}
 use Rattle.docs_core.specs.Imported.{Imports, puts_of}
 use Rattle.docs_core.specs.Made.{Change as MadeChange, Makes, with_change}
 use Rattle.docs_core.specs.Updated.{Updates}
 use Rattle.docs_core.proofs.ImportLaws.{import_leaves}
 use Rattle.docs_core.proofs.UpdateLaws.{keeps_cell}
-use Rattle.docs_core.proofs.UpdatedLemmas.{one_key}
 use Rattle.front_core.specs.Arrivals.{HasMore, IsKnown, KnowsMore}
 use Rattle.front_core.specs.Change.{IsChanged}
 use Rattle.front_core.specs.OpenSite.{IsJoined}
 use Rattle.front_core.specs.declared.change.Change.{Change}
+use Rattle.catalogue.proofs.JoinedLatestLemmas.{first_alone as alone}
+use Rattle.list_core.proofs.Basics.{element_at as first_left}
+use Rattle.catalogue.proofs.BestLemmas.{same_key as one_key}
 use Rattle.front_core.proofs.SpareLemmas.{above_trans}
 
 -- ---- of one key
 
 some_or_none : {X : Type 0} (o : Option X) (x : X) → o ≡ Some x → o ≡ None → ⊥
 some_or_none o x some none = let no : Some x ≡ None = sym some ∙ none in cc
-
-alone : (a : Option Cell) → joined_if_both joined_cells a None ≡ a
-alone None = refl
-alone (Some c) = refl
 
 -- a cell that joins itself, or none
 again : (a : Option Cell) (c : Cell) → ((d : Cell) → a ≡ Some d → Some c ≡ Some d)

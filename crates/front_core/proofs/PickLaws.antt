@@ -12,19 +12,19 @@ use Rattle.lang_core.specs.declared.fault.LangFault.{LangFault}
 use Rattle.lang_core.specs.declared.fault.LangFault.TheVariants as lang
 use Rattle.nego_core.specs.Choosing.{HasOpenDefault}
 use Rattle.nego_core.specs.LangSet.{is_among}
-use Rattle.nego_core.specs.Item.{Item}
-use Rattle.nego_core.proofs.FieldLemmas.{malformed_is_no_field}
-use Rattle.nego_core.proofs.FieldUnique.{one_items}
+use Rattle.list_core.specs.Item.{Item}
+use Rattle.list_core.proofs.FieldLemmas.{malformed_is_no_field}
+use Rattle.list_core.proofs.FieldUnique.{one_items}
 use Rattle.nego_core.proofs.LookupCandidatesLemmas.{one_lookup}
 use Rattle.nego_core.proofs.WideningLemmas.{one_widened}
 use Rattle.nego_core.specs.declared.widening.Widening.{Widening}
 use Rattle.nego_core.specs.declared.widening.Widening.TheVariants.{Off, By}
-use Rattle.nego_core.specs.declared.fault.NegoFault.{NegoFault}
-use Rattle.nego_core.specs.declared.field.Malformed.{Malformed}
-use Rattle.nego_core.specs.declared.field.Malformed.TheVariants.{Refused, PassedOver}
-use Rattle.nego_core.specs.declared.scheme.Scheme.{Scheme}
-use Rattle.nego_core.specs.declared.fault.NegoFault.TheVariants as nego
-use Rattle.nego_core.specs.Field.{IsField, RefusesField}
+use Rattle.list_core.specs.declared.fault.NegoFault.{NegoFault}
+use Rattle.list_core.specs.declared.field.Malformed.{Malformed}
+use Rattle.list_core.specs.declared.field.Malformed.TheVariants.{Refused, PassedOver}
+use Rattle.list_core.specs.declared.scheme.Scheme.{Scheme}
+use Rattle.list_core.specs.declared.fault.NegoFault.TheVariants as nego
+use Rattle.list_core.specs.Field.{IsField, RefusesField}
 use Rattle.front_core.specs.Fault.{field_fault, language_fault}
 use Rattle.front_core.specs.Preferences.{FieldText, ReadsAs, RefusesRanges, Text, IsDefault}
 use Rattle.front_core.specs.Preferences.{RefusesDefault}

@@ -7,15 +7,18 @@ use Rattle.std.specs.Prelude.{Err, Ok, OnOk, Result}
 use Rattle.std.specs.Result.{result_ok}
 use Rattle.cell_core.specs.declared.cell.Cell.{Cell}
 use Rattle.cell_core.specs.Cell.{AgreeCells, cell_laws, joined_cells, stamp_cmp_total}
-use Rattle.cell_core.specs.Keyed.{AgreeIfBoth, IsMap, also_map, at_of, find-joined_maps}
-use Rattle.cell_core.specs.Keyed.{joined_if_both, joined_maps-IsMap, same_maps}
+use Rattle.cell_core.specs.Keyed.{AgreeIfBoth, IsMap}
+use Rattle.cell_core.specs.KeyedLaws.{also_map, at_of, find-joined_maps}
+use Rattle.cell_core.specs.Keyed.{joined_if_both}
+use Rattle.cell_core.specs.KeyedLaws.{joined_maps-IsMap, same_maps}
 use Rattle.cell_core.specs.Stamp.{stamp_cmp}
-use Rattle.cata_core.specs.Entries.{Agree, Entries, IsBelowCells, catalogue_laws, joined, key_cmp}
-use Rattle.cata_core.specs.Entries.{EntryKey, key_cmp_exact, key_cmp_total}
+use Rattle.cell_core.specs.Entry.{key_cmp}
+use Rattle.catalogue.specs.Entries.{Agree, Entries, IsBelowCells, catalogue_laws, joined}
+use Rattle.cell_core.specs.Entry.{EntryKey, key_cmp_exact, key_cmp_total}
 use Rattle.cata_core.specs.Site.{SiteState}
-use Rattle.cata_core.proofs.Basics.{less_of}
-use Rattle.cata_core.proofs.StampOrderLemmas.{lt_self, not_lt_trans}
+use Rattle.catalogue.proofs.StampOrderLemmas.{lt_self, not_lt_trans}
 use Rattle.front_core.specs.OpenSite.{IsJoined}
+use Rattle.lang_core.proofs.Basics.{less_of}
 
 -- What a call promises where it succeeds holds where its value is read.
 pub on_ok_at : {T E P : Type 0} (r : Result T E) (x : T) → result_ok r ≡ Some x → OnOk r P → P

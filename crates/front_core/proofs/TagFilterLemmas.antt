@@ -8,9 +8,9 @@ use Rattle.std.proofs.lemmas.List.Sorted.{All-permutation}
 use Rattle.std.proofs.lemmas.Option.{slice_get_within}
 use Rattle.nego_core.proofs.FilteringEach.{IsKeyFrom, keys_right}
 use Rattle.nego_core.specs.Filtering.{IsFiltered, Key, pick_of}
-use Rattle.nego_core.specs.Item.{Item}
+use Rattle.list_core.specs.Item.{Item}
 use Rattle.nego_core.specs.declared.filtering.Pick.{Pick}
-use Rattle.nego_core.specs.declared.scheme.Scheme.{Scheme}
+use Rattle.list_core.specs.declared.scheme.Scheme.{Scheme}
 use Rattle.front_core.specs.Preferences.{Text}
 use Rattle.front_core.specs.TagFilter.{HaveNames, texts_of}
 

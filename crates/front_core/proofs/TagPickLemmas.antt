@@ -11,7 +11,7 @@ use Rattle.lang_core.specs.Text.{pieces}
 use Rattle.nego_core.specs.Choosing.{HasOpenDefault, IsOpenDefault, IsFirst}
 use Rattle.nego_core.specs.LookupPlaces.{least_place}
 use Rattle.nego_core.specs.LangSet.{is_among}
-use Rattle.nego_core.specs.Item.{Item}
+use Rattle.list_core.specs.Item.{Item}
 use Rattle.nego_core.specs.Widening.{IsFoundBy}
 use Rattle.nego_core.specs.declared.widening.Widening.{Widening}
 use Rattle.nego_core.specs.declared.widening.Widening.TheVariants.{Off, By}

@@ -1,7 +1,7 @@
 -- What answers a question about a message depends on its live labels alone.
 use Rattle.std.proofs.Common.{◌≡◌, subst}
-use Rattle.cata_core.specs.Entries.{Entries}
-use Rattle.cata_core.specs.Live.{live}
+use Rattle.catalogue.specs.Entries.{Entries}
+use Rattle.catalogue.specs.Live.{live}
 use Rattle.query_docs.proofs.OneMessageLemmas.{same_answers}
 use Rattle.query_docs.specs.declared.asking.Ask.TheVariants as ask
 use Rattle.std.specs.Prelude.{Err, MatchResult, Ok, Result}

@@ -1,7 +1,8 @@
 -- Cells that are gathered of others (project rules).
 use Rattle.std.specs.Prelude.{◌≡◌, ◌⊎◌}
 use Rattle.std.specs.FinMap.Entries.{find}
-use Rattle.cata_core.specs.Entries.{Entries, EntryKey, key_cmp}
+use Rattle.cell_core.specs.Entry.{EntryKey, key_cmp}
+use Rattle.catalogue.specs.Entries.{Entries}
 
 -- the second list has what the cells have at each key that is meant, and where the first has it
 abbrev pub HasMore : (EntryKey → Type 0) → Entries → Entries → Entries → Type 0

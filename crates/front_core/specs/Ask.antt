@@ -7,9 +7,9 @@ use Rattle.cell_core.specs.MessageId.{IsMessageId}
 use Rattle.cell_core.specs.declared.fault.CellFault.{CellFault}
 use Rattle.cell_core.specs.declared.fault.CellFault.TheVariants as cell
 use Rattle.cata_core.specs.Site.{SiteState}
-use Rattle.cata_core.specs.Asking.{IsLookupAnswerBy}
-use Rattle.cata_core.specs.Entries.{Entries}
-use Rattle.cata_core.specs.declared.reply.Reply.{Reply}
+use Rattle.catalogue.specs.Asking.{IsLookupAnswerBy}
+use Rattle.catalogue.specs.Entries.{Entries}
+use Rattle.catalogue.specs.declared.reply.Reply.{Reply}
 use Rattle.json_docs.specs.Checks.{OrMemory}
 use Rattle.row_docs.specs.Reading.{IsOfDocument, no_memory}
 use Rattle.site_docs.specs.ReadsAs.{ReadsAsSite, RefusesSite}

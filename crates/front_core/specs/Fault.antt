@@ -3,11 +3,11 @@
 use Rattle.std.specs.Prelude.{◌≡◌, ◌^◌, ℕ, Option, None, Some, if◌then◌else◌, nat_lt}
 use Rattle.lang_core.specs.Fault.{number_of as lang_number, offset_of as lang_offset}
 use Rattle.lang_core.specs.declared.fault.LangFault.{LangFault}
-use Rattle.nego_core.specs.Fault.{number_of as nego_number}
-use Rattle.nego_core.specs.declared.fault.NegoFault.{NegoFault}
+use Rattle.list_core.specs.Fault.{number_of as nego_number}
+use Rattle.list_core.specs.declared.fault.NegoFault.{NegoFault}
 use Rattle.cell_core.specs.Fault.{number_of as cell_number}
 use Rattle.cell_core.specs.declared.fault.CellFault.{CellFault}
-use Rattle.cata_core.specs.declared.cata_fault.CataFault.{CataFault}
+use Rattle.catalogue.specs.declared.cata_fault.CataFault.{CataFault}
 use Rattle.json_docs.specs.declared.fault.DocCause.{DocCause}
 use Rattle.json_docs.specs.declared.fault.DocFault.{DocFault}
 use Rattle.json_docs.specs.declared.fault.FieldFault.{FieldFault}
@@ -15,9 +15,9 @@ use Rattle.front_core.specs.declared.fault.FrontFault.{FrontFault}
 use Rattle.front_core.specs.declared.fault.FrontFault.TheVariants.{Cell, Language, Field, Document}
 use Rattle.front_core.specs.declared.fault.FrontFault.TheVariants.{NoMemory}
 use Rattle.lang_core.specs.declared.fault.LangFault.TheVariants as lang
-use Rattle.nego_core.specs.declared.fault.NegoFault.TheVariants as nego
+use Rattle.list_core.specs.declared.fault.NegoFault.TheVariants as nego
 use Rattle.cell_core.specs.declared.fault.CellFault.TheVariants as cell
-use Rattle.cata_core.specs.declared.cata_fault.CataFault.TheVariants as cata
+use Rattle.catalogue.specs.declared.cata_fault.CataFault.TheVariants as cata
 use Rattle.json_docs.specs.Faults as doc
 use Rattle.json_docs.specs.declared.fault.DocCause.TheVariants as cause
 use Rattle.json_docs.specs.declared.fault.FieldFault.TheVariants as row

@@ -5,10 +5,10 @@ use Rattle.std.specs.Str.{IsUtf8}
 use Rattle.cell_core.specs.SiteName.{IsSiteName}
 use Rattle.cell_core.specs.declared.fault.CellFault.TheVariants.{SiteName}
 use Rattle.cata_core.specs.Site.{SiteState, RefusesDelta}
-use Rattle.cata_core.specs.CataFault.{IsRefusal}
-use Rattle.cata_core.specs.Entries.{Agree, Between, Entries, joined}
+use Rattle.catalogue.specs.CataFault.{IsRefusal}
+use Rattle.catalogue.specs.Entries.{Agree, Between, Entries, joined}
 use Rattle.cata_core.specs.declared.delta.Delta.{Delta}
-use Rattle.cata_core.specs.declared.cata_fault.CataFault.TheVariants.{ClockSpent}
+use Rattle.catalogue.specs.declared.cata_fault.CataFault.TheVariants.{ClockSpent}
 use Rattle.json_docs.specs.Checks.{OrMemory}
 use Rattle.row_docs.specs.Reading.{no_memory, IsOfDocument}
 use Rattle.map_docs.specs.LangMapLabels.{AreLangMaps, RefusesLangMaps}

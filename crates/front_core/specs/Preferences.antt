@@ -3,11 +3,11 @@
 use Rattle.std.specs.Prelude.{◌≤◌, ℕ, List, length, ◌≡◌, ◌⊎◌, Option, None, Some}
 use Rattle.lang_core.specs.Lang.{SpellsLang, RefusesLang}
 use Rattle.lang_core.specs.declared.fault.LangFault.{LangFault}
-use Rattle.nego_core.specs.Field.{IsField, RefusesField}
-use Rattle.nego_core.specs.Item.{Item}
-use Rattle.nego_core.specs.declared.fault.NegoFault.{NegoFault}
-use Rattle.nego_core.specs.declared.field.Malformed.{Malformed}
-use Rattle.nego_core.specs.declared.scheme.Scheme.{Scheme}
+use Rattle.list_core.specs.Field.{IsField, RefusesField}
+use Rattle.list_core.specs.Item.{Item}
+use Rattle.list_core.specs.declared.fault.NegoFault.{NegoFault}
+use Rattle.list_core.specs.declared.field.Malformed.{Malformed}
+use Rattle.list_core.specs.declared.scheme.Scheme.{Scheme}
 use Rattle.nego_core.specs.declared.widening.Widening.{Widening}
 use Rattle.front_core.specs.Fault.{IsOf, field_fault, language_fault}
 use Rattle.front_core.specs.declared.preferences.Field.{Field}

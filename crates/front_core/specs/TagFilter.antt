@@ -4,7 +4,7 @@ use Rattle.std.specs.Prelude.{◌≡◌, ◌==◌, ◌<◌, ◌⊎◌, ◌++◌,
 use Rattle.std.specs.Prelude.{get_or, length, map, not}
 use Rattle.std.specs.Borrow.{Bor}
 use Rattle.nego_core.specs.Filtering.{IsFiltered}
-use Rattle.nego_core.specs.Item.{Item}
+use Rattle.list_core.specs.Item.{Item}
 use Rattle.nego_core.specs.declared.filtering.Pick.{Pick}
 use Rattle.query_docs.specs.Lines.{line, listed}
 use Rattle.front_core.specs.Fault.{IsOf, field_fault, language_fault}

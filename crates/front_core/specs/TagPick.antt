@@ -6,7 +6,7 @@ use Rattle.lang_core.specs.Lang.{SpellsLang}
 use Rattle.lang_core.specs.Text.{pieces}
 use Rattle.nego_core.specs.Choosing.{HasOpenDefault, IsOpenDefault, IsFirst, IsLookedUp}
 use Rattle.nego_core.specs.LangSet.{is_among}
-use Rattle.nego_core.specs.Item.{Item}
+use Rattle.list_core.specs.Item.{Item}
 use Rattle.nego_core.specs.Widening.{IsLookedUpWidened}
 use Rattle.nego_core.specs.declared.widening.Widening.{Widening}
 use Rattle.nego_core.specs.declared.widening.Widening.TheVariants.{Off, By}

@@ -1,7 +1,7 @@
 -- What translators and editors get of a site (project rules).
 use Rattle.std.specs.Prelude.{◌≡◌, ◌⊎◌}
 use Rattle.lang_core.specs.Lang.{RefusesLang, SpellsLang}
-use Rattle.cata_core.specs.Changes.{AreChanges, Changed}
+use Rattle.catalogue.specs.Changes.{AreChanges, Changed}
 use Rattle.cata_core.specs.Site.{SiteState}
 use Rattle.map_docs.specs.LangMapTexts.{AreWritten}
 use Rattle.query_docs.specs.Changed.{changes_lines, has_change}

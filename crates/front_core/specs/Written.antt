@@ -1,6 +1,6 @@
 -- Documents of sites as they are written, asked where they lie (project rules).
 use Rattle.std.specs.Prelude.{◌≡◌, ℕ, List}
-use Rattle.cata_core.specs.Live.{live}
+use Rattle.catalogue.specs.Live.{live}
 use Rattle.cata_core.specs.Site.{SiteState}
 use Rattle.row_docs.specs.declared.kind.Kind.TheVariants.{Site}
 use Rattle.site_docs.specs.Plain.{IsPlainText}

@@ -50,7 +50,7 @@ pub struct Lookup {
 
 impl Lookup {
     ghost use Rattle.std.specs.Prelude.{IfOk, MatchResult};
-    ghost use Rattle.cata_core.specs.Reply.{reply_of};
+    ghost use Rattle.catalogue.specs.Reply.{reply_of};
     ghost use Rattle.front_core.specs.Ask.{AnswersLookup, AnswersText, IsLookup, IsReply};
     ghost use Rattle.front_core.specs.Ask.{RefusesLookup};
     ghost use Rattle.front_core.specs.Preferences.{field_text};

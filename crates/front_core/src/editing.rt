@@ -2,10 +2,10 @@
 //! another site.
 ghost use Rattle.std.specs.Prelude.{◌≡◌, ◌≢◌, ℕ, IfErr, OnErr, OnOk};
 ghost use Rattle.cell_core.specs.Keyed.{IsMap};
-ghost use Rattle.cata_core.specs.CataFault.{IsRefusal};
-ghost use Rattle.cata_core.specs.Entries.{key_cmp};
+ghost use Rattle.catalogue.specs.CataFault.{IsRefusal};
+ghost use Rattle.cell_core.specs.Entry.{key_cmp};
 ghost use Rattle.cata_core.specs.Site.{SiteState};
-ghost use Rattle.cata_core.specs.declared.cata_fault.CataFault.TheVariants.{ClockSpent};
+ghost use Rattle.catalogue.specs.declared.cata_fault.CataFault.TheVariants.{ClockSpent};
 ghost use Rattle.docs_core.specs.Imported.{Imports, SpendsImport};
 ghost use Rattle.docs_core.specs.Updated.{SpendsUpdate, Updates};
 ghost use Rattle.front_core.specs.Change.{IsChanged, RefusesChange};

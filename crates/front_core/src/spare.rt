@@ -1,7 +1,7 @@
 //! A site as it was before its last edits, by which an edit of a shared site costs what it changes.
 ghost use Rattle.std.specs.Prelude.{◌≡◌, IfErr, IfOk, IfSome, OnErr};
 ghost use Rattle.cell_core.specs.Keyed.{IsMap};
-ghost use Rattle.cata_core.specs.Entries.{key_cmp};
+ghost use Rattle.cell_core.specs.Entry.{key_cmp};
 ghost use Rattle.cata_core.specs.Site.{SiteState};
 ghost use Rattle.front_core.specs.OpenSite.{IsJoined};
 ghost use Rattle.front_core.specs.Spare.{IsSpareOf};

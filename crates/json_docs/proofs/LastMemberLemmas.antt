@@ -12,6 +12,7 @@ use Rattle.serde_json.specs.Data.{Data, Members, no_members, member, put}
 use Rattle.serde_json.specs.Find.{get_member}
 use Rattle.serde_json.specs.Read.{of_json, of_members}
 use Rattle.json_docs.specs.LastMember.{HasNo, and_then}
+use Rattle.catalogue.proofs.Basics.{some_same as same_some}
 
 same_name : (k : List ℕ) → slice_cmp nat_cmp k k ≡ Equal
 same_name k = tied_itself nat_list_cmp_total k
@@ -64,9 +65,6 @@ of_some : {A B : Type 0} (P : Type 0) (f : A → Option B) (o : Option A) (b : B
     → ((a : A) → f a ≡ Some b → P) → option_and_then f o ≡ Some b → P
 of_some P f None b later e = cc
 of_some P f (Some a) b later e = later a e
-
-same_some : {A : Type 0} (a b : A) → Some a ≡ Some b → a ≡ b
-same_some a b e = cc
 
 -- Members of other names change nothing.
 others_read : (name : List ℕ) (after : json.Members) (found read : Members) → HasNo name after

@@ -1,5 +1,5 @@
 -- Members that are read or passed over.
-use Rattle.std.proofs.Common.{◌≡◌, ◌∙◌, ℕ, List, [], ◌∷◌, ◌&&◌, Bool, true, false, length, ap, sym}
+use Rattle.std.proofs.Common.{◌≡◌, ◌∙◌, ℕ, List, [], ◌∷◌, true, false, length, ap, sym}
 use Rattle.std.proofs.Common.{refl, arith}
 use Rattle.std.specs.Prelude.{Option, None, Some, Result, MatchResult, Ok, Err, option_map}
 use Rattle.std.specs.Prelude.{unwrap_or}
@@ -19,6 +19,7 @@ use Rattle.json_docs.specs.MembersRead.{ReadsMembers, ReadsNoMembers, is_scalar}
 use Rattle.json_docs.specs.Numbers.{are_in_range, is_token_in_range}
 use Rattle.json_docs.specs.Reads.{Reads, data_of}
 use Rattle.json_docs.specs.Parts.{items_in}
+use Rattle.catalogue.proofs.Basics.{second_so}
 use Rattle.json_docs.proofs.ReadableLemmas.{parts_in_range, Reads-in_range}
 use Rattle.json_docs.proofs.ReadingLemmas.{converted-array, converted-object}
 
@@ -33,10 +34,6 @@ pub both_weaker : {T E : Type 0} (r : Result T E) (P Q : T → Type 0) (F G : E 
     → MatchResult r P F → ((x : T) → P x → Q x) → ((e : E) → F e → G e) → MatchResult r Q G
 both_weaker (Ok x) P Q F G h more other = more x h
 both_weaker (Err e) P Q F G h more other = other e h
-
-second_so : (a b : Bool) → (a && b) ≡ true → b ≡ true
-second_so true b h = h
-second_so false b h = cc
 
 -- the numbers after a token
 pub range_after : (t : Token) (ts : List Token) → are_in_range (t ∷ ts) ≡ true

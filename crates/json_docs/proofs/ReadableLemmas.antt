@@ -56,7 +56,8 @@ mutual
       ∙ ap (λ a. a && are_in_range (members_tokens ms)) (is_some-of_json j)
       ∙ sym (list_all-append is_token_in_range (json_tokens j) (members_tokens ms))
 
-both_true : (a b : Bool) → (a && b) ≡ true → (a ≡ true) × (b ≡ true)
+-- Where a conjunction is true, both its tests are.
+pub both_true : (a b : Bool) → (a && b) ≡ true → (a ≡ true) × (b ≡ true)
 both_true true b h = (refl, h)
 both_true false b h = cc
 

@@ -14,7 +14,7 @@ use Rattle.serde_json.specs.Data.{string, array, object, Items, no_items, item, 
 use Rattle.serde_json.specs.Data.{member, put}
 use Rattle.serde_json.specs.Find.{as_array, as_u64, get, get_member}
 use Rattle.serde_json.specs.Read.{max_depth, number_of, of_items, of_json, of_members, read}
-use Rattle.cata_core.proofs.Basics.{second_so, some_same}
+use Rattle.catalogue.proofs.Basics.{second_so, some_same}
 use Rattle.json_docs.specs.Parts.{items_in, list_of, narrowed, u32_in, u64_in}
 use Rattle.json_docs.proofs.NumbersLemmas.{number_of-minus, number_of-plain}
 

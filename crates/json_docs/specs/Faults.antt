@@ -2,11 +2,11 @@
 use Rattle.std.specs.Prelude.{ℕ, Option, None, Some}
 use Rattle.lang_core.specs.Fault.{number_of as lang_number}
 use Rattle.cell_core.specs.Fault.{number_of as cell_number}
-use Rattle.nego_core.specs.Fault.{number_of as nego_number}
-use Rattle.cata_core.specs.CataFault.{number_of as cata_number}
+use Rattle.list_core.specs.Fault.{number_of as nego_number}
+use Rattle.catalogue.specs.CataFault.{number_of as cata_number}
 use Rattle.cata_core.specs.PlayFault.{number_of as play_number}
-use Rattle.cata_core.specs.declared.cata_fault.CataFault.{CataFault}
-use Rattle.cata_core.specs.declared.cata_fault.CataFault.TheVariants as cata
+use Rattle.catalogue.specs.declared.cata_fault.CataFault.{CataFault}
+use Rattle.catalogue.specs.declared.cata_fault.CataFault.TheVariants as cata
 use Rattle.cata_core.specs.declared.play_fault.PlayFault.{PlayFault}
 use Rattle.cata_core.specs.declared.play_fault.PlayFault.TheVariants as play
 use Rattle.json_docs.specs.declared.fault.FieldFault.{FieldFault}

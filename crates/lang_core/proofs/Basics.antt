@@ -1,6 +1,10 @@
--- Small facts on tests.
+-- Small facts on tests and comparisons.
 use Rattle.std.proofs.Common.{ℕ, ◌≡◌, ◌≤◌, ◌<◌, ◌⊎◌, inl, inr, Bool, true, false, refl, arith}
+use Rattle.std.proofs.Common.{sym, true≢false}
 use Rattle.std.specs.Prelude.{nat_le, nat_lt, ◌&&◌, ◌||◌, not}
+use Rattle.std.specs.Ordering.{is_lt as is_less}
+use Rattle.std.specs.declared.cmp.Ordering.{Ordering}
+use Rattle.std.specs.declared.cmp.Ordering.TheVariants.{Less, Equal, Greater}
 use Rattle.std.proofs.lemmas.Bool.Decides.{nat_tests}
 
 -- A truth value is true or false.
@@ -73,3 +77,14 @@ lt_is m n h = grind (arith, nat_tests)
 -- Where the first number is below the second, the test `nat_lt` passes.
 pub is_lt : (m n : ℕ) → m < n → nat_lt m n ≡ true
 is_lt m n h = grind (arith, nat_tests)
+
+-- A comparison whose test for less is true is `Less`.
+pub less_of : (r : Ordering) → is_less r ≡ true → r ≡ Less
+less_of Less e = refl
+less_of Equal e = absurd (true≢false (sym e))
+less_of Greater e = absurd (true≢false (sym e))
+
+-- Where the negation of a value is false, the value is true.
+pub not_false : (b : Bool) → not b ≡ false → b ≡ true
+not_false true h = refl
+not_false false h = cc

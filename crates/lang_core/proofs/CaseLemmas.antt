@@ -52,7 +52,8 @@ pub alphanums-lower : (s : List ℕ)
     → list_all is_ascii_alphanumeric s ≡ list_all is_alphanum (str_to_ascii_lowercase s)
 alphanums-lower s = sym (list_all-lower is_alphanum is_ascii_alphanumeric s lower_alphanum)
 
-lower_same : (b : ℕ) → is_alphanum b ≡ true → to_ascii_lowercase b ≡ b
+-- A small letter or digit is its own lower case.
+pub lower_same : (b : ℕ) → is_alphanum b ≡ true → to_ascii_lowercase b ≡ b
 lower_same b h = grind (arith, nat_tests)
 
 -- A text of digits and lower-case letters is its own text in lower case.

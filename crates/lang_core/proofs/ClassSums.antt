@@ -123,7 +123,8 @@ sum_of_alphanums s sum e low = elim (cases_bool (list_all is_ascii_alphanumeric 
 same_test : (m n p q : ℕ) → (m ≡ n → p ≡ q) → (p ≡ q → m ≡ n) → (m == n) ≡ (p == q)
 same_test m n p q there back = grind (arith, nat_tests)
 
-no_test : (m n : ℕ) → (m ≡ n → ⊥) → (m == n) ≡ false
+-- Numbers that differ do not test as equal.
+pub no_test : (m n : ℕ) → (m ≡ n → ⊥) → (m == n) ≡ false
 no_test m n h = grind (arith, nat_tests)
 
 letters_test : (s : List ℕ) → (sum_by class_of s == 0) ≡ list_all is_ascii_alphabetic s

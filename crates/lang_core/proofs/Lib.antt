@@ -16,7 +16,6 @@ pub mod TagTableLemmas
 pub mod TagText
 pub mod RangeText
 pub mod Embedding
-pub mod PackedTagLemmas
 pub mod BasicLaw
 pub mod FrontLemmas
 pub mod BasicBytes

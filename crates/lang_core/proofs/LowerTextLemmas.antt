@@ -108,7 +108,8 @@ one_digit m n x y p q = higher (nat_cmp m n) (ranks m n)
     higher Greater h = let more : n < m = h in
         sym (nat_cmp_is (m * 256 + x) (n * 256 + y) Greater (omega arith))
 
-then_equal : (r : Ordering) → ordering_then r Equal ≡ r
+-- A comparison followed by `Equal` is the comparison.
+pub then_equal : (r : Ordering) → ordering_then r Equal ≡ r
 then_equal Less = refl
 then_equal Equal = refl
 then_equal Greater = refl

@@ -20,7 +20,8 @@ use Rattle.lang_core.specs.Text.{pieces_by, pieces, joined}
 use Rattle.lang_core.proofs.Basics.{cases_bool}
 use Rattle.lang_core.proofs.CaseLemmas.{lower_hyphen, lowered}
 
-cond_none : (b : Bool) (x : ℕ) → cond b (Some x) None ≡ None → b ≡ false
+-- Where a choice between a value and none is none, its test is false.
+pub cond_none : (b : Bool) (x : ℕ) → cond b (Some x) None ≡ None → b ≡ false
 cond_none true x h = cc
 cond_none false x h = refl
 

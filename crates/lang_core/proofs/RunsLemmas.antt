@@ -161,7 +161,9 @@ pub record IsRunSoFar (test : List ℕ → Bool) (list left : List (List ℕ)) (
   pub each : AreAll test run
   pub size : len ≡ sum_by (λ s. length s + 1) run
 
-regroup : (a : List (List ℕ)) (s : List ℕ) (b : List (List ℕ)) → (a ++ s ∷ []) ++ b ≡ a ++ s ∷ b
+-- An element at the end of a list is the first of what follows.
+pub regroup : (a : List (List ℕ)) (s : List ℕ) (b : List (List ℕ))
+    → (a ++ s ∷ []) ++ b ≡ a ++ s ∷ b
 regroup a s b = rw append_assoc refl
 
 -- One more subtag of the kind adds its bytes, and one.

@@ -172,7 +172,8 @@ accepts_one stage (s ∷ t ∷ pieces) rest can e h =
     (step Singleton Extension t (pieces ++ rest) (rw parts.0 refl)
     (accepts_pieces pieces rest parts.1 h))
 
-regroup : (a b c : List (List ℕ)) → (a ++ b) ++ c ≡ a ++ (b ++ c)
+-- Appending is associative.
+pub regroup : (a b c : List (List ℕ)) → (a ++ b) ++ c ≡ a ++ (b ++ c)
 regroup a b c = rw append_assoc refl
 
 accepts_each : (stage : Stage) (each : List (List (List ℕ))) (private : List (List ℕ))

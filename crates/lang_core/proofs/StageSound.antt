@@ -1,7 +1,6 @@
 -- The stages accept a list exactly where it is a private tag or a langtag.
 use Rattle.std.proofs.Common.{ℕ, ◌≡◌, ◌≤◌, ◌<◌, ◌-◌, ◌⊎◌, inl, inr, List, [], ◌∷◌, ◌++◌, Some, None}
 use Rattle.std.proofs.Common.{Option, Bool, true, false, cond, length, refl, sym, ◌∙◌, ap, arith}
-use Rattle.std.proofs.Common.{append_assoc}
 use Rattle.std.specs.Prelude.{IsTrue, nat_lt, ◌&&◌}
 use Rattle.std.proofs.lemmas.Bool.{ltb-true}
 use Rattle.lang_core.specs.Grammar.{is_short_language, is_long_language, is_extlang, is_script}
@@ -15,6 +14,7 @@ use Rattle.lang_core.specs.declared.stage.Stage.TheVariants.{Start, Language, Sc
 use Rattle.lang_core.specs.declared.stage.Stage.TheVariants.{Singleton, Extension, PrivateStart}
 use Rattle.lang_core.specs.declared.stage.Stage.TheVariants.{Private}
 use Rattle.lang_core.proofs.Basics.{each_true, both, or_left, or_right}
+use Rattle.lang_core.proofs.StageComplete.{regroup}
 
 -- ---- what may follow each stage
 
@@ -115,9 +115,6 @@ end_of_private list p = record {
   extensions_ok = record { each = []; whole = refl; extensions = tt };
   private_ok = inr p;
 }
-
-regroup : (a b c : List (List ℕ)) → (a ++ b) ++ c ≡ a ++ (b ++ c)
-regroup a b c = rw append_assoc refl
 
 with_extension : (s : List ℕ) (more : List (List ℕ)) → is_singleton s ≡ true
     → Follows Singleton more → EndPart (s ∷ more)

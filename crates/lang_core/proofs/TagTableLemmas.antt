@@ -142,7 +142,8 @@ stage_next o n l d f x =
     ((within 2 2 n && l) || (within 3 3 n && d)) (within 5 8 n || (within 4 4 n && f)) x
     (within 1 1 n && not x) (within 2 8 n) (within 1 8 n)
 
-and_true : (a : Bool) → a && true ≡ a
+-- A test and true is the test.
+pub and_true : (a : Bool) → a && true ≡ a
 and_true true = refl
 and_true false = refl
 
@@ -557,7 +558,8 @@ or_false : (a : Bool) → a || false ≡ a
 or_false true = refl
 or_false false = refl
 
-not_zero : (n : ℕ) → (suc n == 0) ≡ false
+-- A successor does not test as zero.
+pub not_zero : (n : ℕ) → (suc n == 0) ≡ false
 not_zero n = grind (arith, nat_tests)
 
 all_push : (test : ℕ → Bool) (s : List ℕ) (b : ℕ) (v : Bool) → test b ≡ v

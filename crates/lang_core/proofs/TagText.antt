@@ -11,7 +11,8 @@ use Rattle.lang_core.specs.Tag.{HasSubtags}
 use Rattle.lang_core.proofs.Basics.{cases_bool, each_true, both}
 use Rattle.lang_core.proofs.Classes.{run_of}
 
-alphanum_nonzero : (b : ℕ) → is_alphanum b ≡ true → is_nonzero_ascii b ≡ true
+-- A small letter or digit is ASCII other than zero.
+pub alphanum_nonzero : (b : ℕ) → is_alphanum b ≡ true → is_nonzero_ascii b ≡ true
 alphanum_nonzero b h = grind (arith, nat_tests)
 
 hyphen_nonzero : (b : ℕ) → (b == 45) ≡ true → is_nonzero_ascii b ≡ true

@@ -11,6 +11,7 @@ use Rattle.lang_core.specs.Candidates.{candidates_left}
 use Rattle.lang_core.proofs.Basics.{cases_bool, each_true, both, and_false}
 use Rattle.lang_core.proofs.CandidateLemmas.{truncated_one, truncated_push, is_cut_one, is_cut_push}
 use Rattle.lang_core.proofs.LookupLemmas.{no_star}
+use Rattle.lang_core.proofs.TagTableLemmas.{and_true}
 
 -- ---- a list and its last subtag
 
@@ -24,10 +25,6 @@ size_without s [] = refl
 size_without s (t ∷ more) = ap suc (size_without t more)
 
 -- ---- the single letters and digits at the end
-
-and_true : (b : Bool) → b && true ≡ b
-and_true true = refl
-and_true false = refl
 
 all_push : (front : List (List ℕ)) (last : List ℕ) (b : Bool) → is_single last ≡ b
     → list_all is_single (front ++ last ∷ []) ≡ list_all is_single front && b

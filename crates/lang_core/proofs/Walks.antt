@@ -1,6 +1,6 @@
 -- A walk from piece to piece.
 use Rattle.std.proofs.Common.{ℕ, ◌≡◌, ◌≤◌, ◌+◌, List, [], ◌∷◌, ◌++◌, Bool, true, length, sum_by}
-use Rattle.std.proofs.Common.{refl, sym, ◌∙◌, ap, subst, arith, length-append, append_assoc}
+use Rattle.std.proofs.Common.{refl, sym, ◌∙◌, ap, subst, arith, length-append}
 use Rattle.std.proofs.Common.{append-nil}
 use Rattle.std.specs.Str.{str_to_ascii_lowercase}
 use Rattle.std.specs.Char.{to_ascii_lowercase}
@@ -11,6 +11,7 @@ use Rattle.lang_core.specs.Grammar.{are_allowed}
 use Rattle.lang_core.proofs.Basics.{each_true, both}
 use Rattle.lang_core.proofs.CaseLemmas.{lowered}
 use Rattle.lang_core.proofs.PiecesLemmas.{size_pieces, size_cons, length_le_size, pieces-lower}
+use Rattle.lang_core.proofs.RunsLemmas.{regroup}
 
 -- the subtags before the offset are allowed, and the pieces that are left are still to come
 pub record IsWalked (allowed : ℕ → List ℕ → Bool) (text : List ℕ) (left : List (List ℕ))
@@ -33,9 +34,6 @@ walk_start allowed text left e =
       offset_is = refl;
       before_ok = refl;
     }
-
-regroup : (a : List (List ℕ)) (s : List ℕ) (b : List (List ℕ)) → (a ++ s ∷ []) ++ b ≡ a ++ s ∷ b
-regroup a s b = rw append_assoc refl
 
 allowed_push : (allowed : ℕ → List ℕ → Bool) (from : ℕ) (list : List (List ℕ)) (piece : List ℕ)
     → are_allowed allowed from list ≡ true → allowed (from + length list) piece ≡ true

@@ -9,7 +9,6 @@ pub mod Tag
 pub mod Range
 pub mod RangeSyntax
 pub mod Matching
-pub mod PackedTag
 pub mod Candidates
 pub mod Truncations
 pub mod Subtags

@@ -4,7 +4,6 @@
 //! - [`Tag`] is a well-formed tag, [`Lang`] a tag or `@none`, [`Range`] an extended range.
 //! - A tag gives its language, extlangs, script, region and variants as slices of its text.
 //! - Ranges match tags by basic and by extended filtering, and give the texts that lookup tries.
-//!   A [`PackedTag`] is a tag for the extended match of many ranges.
 //! - [`LangFault`] says why a text is refused, and where.
 //!
 //! Texts are stored in lower case and have at most 255 bytes. A parser finds every other fault
@@ -32,7 +31,6 @@ pub mod laws;
 mod lookup_text;
 mod lower_text;
 mod matching;
-mod packed_tag;
 mod parts;
 mod pieces;
 mod range;
@@ -46,7 +44,6 @@ mod truncations;
 
 pub use fault::LangFault;
 pub use lang::Lang;
-pub use packed_tag::PackedTag;
 pub use range::Range;
 pub use subtags::Subtags;
 pub use tag::Tag;

@@ -18,7 +18,6 @@ use crate::fault::LangFault;
 use crate::lookup_text::LookupText;
 use crate::lower_text::{LowerText, MAX_LEN};
 use crate::matching::{matches_basic, matches_basic_text, matches_extended};
-use crate::packed_tag::PackedTag;
 use crate::pieces::{HYPHEN, Pieces};
 use crate::range_syntax::{basic_fault, extended_fault, is_star};
 use crate::subtags::Subtags;
@@ -134,7 +133,8 @@ impl Range {
 
     /// The subtags, each "*" included, in order.
     pub fn subtags(&self) -> Subtags<'_>
-        ensures { subtags_left result ≡ pieces self.now }
+        ensures subtags { subtags_left result ≡ pieces self.now }
+        ensures range { ExtendedRange (subtags_left result) }
     {
         Subtags::new(self.text.as_str())
     }
@@ -172,14 +172,6 @@ impl Range {
         ensures { IsTrue result ↔ Extended (pieces self.now) (pieces tag.now) }
     {
         matches_extended(self.text.as_bytes(), tag.as_str().as_bytes())
-    }
-
-    /// Extended filtering (RFC 4647 section 3.3.2), as `matches_extended` does it, of a tag whose
-    /// subtags are packed: a match takes a quarter of the steps.
-    pub fn matches_packed(&self, tag: &PackedTag) -> bool
-        ensures { IsTrue result ↔ Extended (pieces self.now) (pieces tag.now) }
-    {
-        tag.is_matched_by(self.text.as_bytes())
     }
 
     /// The lookup text and its truncations, longest first, as slices of it (RFC 4647 section 3.4).

@@ -12,8 +12,8 @@ use Rattle.std.specs.declared.cmp.Ordering.{Ordering}
 use Rattle.std.specs.declared.cmp.Ordering.TheVariants.{Less}
 use Rattle.std.proofs.lemmas.List.Elements.{All-cons, All-nil}
 use Rattle.std.proofs.lemmas.Option.{none-some}
-use Rattle.cata_core.proofs.Basics.{some_same}
-use Rattle.cata_core.proofs.FlatLemmas.{all_first, all_rest}
+use Rattle.catalogue.proofs.Basics.{some_same}
+use Rattle.catalogue.proofs.FlatLemmas.{all_first, all_rest}
 use Rattle.cell_core.specs.Above.{IsAboveAll}
 
 -- No keys ascend.

@@ -21,14 +21,13 @@ use Rattle.std.specs.Map.{keys_of, lookup}
 use Rattle.std.specs.Ordering.{is_eq, is_lt, match_ordering, ordering_then}
 use Rattle.std.specs.Cmp.Lexicographic.{nat_list_cmp_total}
 use Rattle.std.specs.Str.{bytes_eq, str_to_ascii_lowercase}
-use Rattle.std.specs.declared.cmp.Ordering.{Ordering}
 use Rattle.std.specs.declared.cmp.Ordering.TheVariants.{Less, Equal, Greater}
 use Rattle.cell_core.specs.Keyed.{IsMap}
 use Rattle.cell_core.specs.MessageId.{IsMessageId}
-use Rattle.cata_core.proofs.Basics.{both_parts, first_part, less_than, second_part}
-use Rattle.cata_core.proofs.FlatLemmas.{all_first, all_rest}
-use Rattle.cata_core.specs.Entries.{EntryKey, IsAboveAll, key_cmp, text_cmp}
-use Rattle.cata_core.specs.Flat.{under}
+use Rattle.catalogue.proofs.FlatLemmas.{all_first, all_rest}
+use Rattle.cell_core.specs.Entry.{EntryKey, key_cmp, text_cmp}
+use Rattle.catalogue.specs.Entries.{IsAboveAll}
+use Rattle.catalogue.specs.Flat.{under}
 use Rattle.lang_core.specs.Lang.{SpellsLang}
 use Rattle.json_docs.specs.Checks.{AllPass, FirstFails}
 use Rattle.json_docs.specs.declared.fault.DocCause.{DocCause}
@@ -46,6 +45,8 @@ use Rattle.map_docs.specs.LangMapRowsSeen.{keys_seen, live, rows_seen, strings_s
 use Rattle.map_docs.specs.LangMaps.{Labelled}
 use Rattle.map_docs.specs.LangMapsValue.{Languages}
 use Rattle.json_docs.proofs.ChecksLemmas.{AllPass-both, FirstFails-rest, FirstFails-front}
+use Rattle.row_docs.proofs.RisingKeys.{so_less as is_less}
+use Rattle.cell_core.proofs.Basics.{both_parts, first_part, less_than, second_part}
 
 -- ---- a language in lower case
 
@@ -308,9 +309,6 @@ lesser_key id other x y less = ap (λ o. ordering_then o (text_cmp x y)) less
 -- keys of one message are as their languages
 pub same_id : (id x y : List ℕ) → key_cmp (id, x) (id, y) ≡ text_cmp x y
 same_id id x y = ap (λ o. ordering_then o (text_cmp x y)) (tied_itself nat_list_cmp_total id)
-
-is_less : (o : Ordering) → o ≡ Less → T (is_lt o)
-is_less o less = subst (λ r. T (is_lt r)) (sym less) tt
 
 below_under : (id x : List ℕ) (ls : Languages) → T (below_all text_cmp x ls)
     → T (below_all key_cmp (id, x) (under id ls))

@@ -12,15 +12,15 @@ use Rattle.std.specs.Ordering.{is_lt, ordering_reverse, ordering_then}
 use Rattle.std.specs.declared.cmp.Ordering.{Ordering}
 use Rattle.std.specs.declared.cmp.Ordering.TheVariants.{Less, Equal}
 use Rattle.cell_core.specs.Keyed.{IsMap}
-use Rattle.cata_core.proofs.Basics.{first_part, second_part}
-use Rattle.cata_core.proofs.FlatLemmas.{pair_total}
-use Rattle.cata_core.proofs.KeyPlacesLemmas.{below-at}
-use Rattle.cata_core.specs.Entries.{key_cmp, key_cmp_exact, key_cmp_total, pair_cmp, text_cmp}
-use Rattle.nego_core.proofs.Unique.{one_order, text_tied, then_tied}
+use Rattle.catalogue.proofs.FlatLemmas.{pair_total}
+use Rattle.catalogue.proofs.KeyPlacesLemmas.{below-at}
+use Rattle.cell_core.specs.Entry.{key_cmp, key_cmp_exact, key_cmp_total, pair_cmp, text_cmp}
+use Rattle.list_core.proofs.Unique.{one_order, text_tied, then_tied}
 use Rattle.serde_json.specs.Data.{Data}
 use Rattle.map_docs.specs.LangMapLabels.{AreLangMaps, ReadsAsLangMaps, rows_labels}
 use Rattle.map_docs.specs.LangMapRows.{Rows}
 use Rattle.map_docs.specs.LangMaps.{Labelled}
+use Rattle.cell_core.proofs.Basics.{first_part, second_part}
 
 texts_tied : (x y : List (List ℕ)) → slice_cmp text_cmp x y ≡ Equal → x ≡ y
 texts_tied [] [] e = refl

@@ -1,18 +1,18 @@
 -- Rows that are read off tokens, or off a value.
 use Rattle.std.proofs.Common.{◌≡◌, ◌∙◌, ◌++◌, ◌&&◌, ◌<◌, ◌+◌, ℕ, zero, suc, Bool, true, false, List}
-use Rattle.std.proofs.Common.{[], ◌∷◌, map, drop, take, length, get_or, None, Some, String, Global}
+use Rattle.std.proofs.Common.{[], ◌∷◌, map, take, length, get_or, None, Some, String, Global}
 use Rattle.std.proofs.Common.{string_bytes, string_cmp, refl, sym, ap, add-one, arith}
 use Rattle.std.specs.Prelude.{if◌then◌else◌}
 use Rattle.std.proofs.lemmas.List.{map-append}
 use Rattle.std.proofs.lemmas.List.Elements.{filter_map-append}
 use Rattle.std.proofs.lemmas.List.Folds.{list_all-append}
-use Rattle.std.proofs.Math.Seq.{drop-cons, take-suc}
+use Rattle.std.proofs.Math.Seq.{take-suc}
 use Rattle.std.specs.BTreeMap.{insert_entry}
 use Rattle.std.specs.FinMap.Entries.{by_order, put}
 use Rattle.std.specs.List.{filter_map, list_all}
 use Rattle.std.specs.Ordering.{match_ordering}
 use Rattle.std.specs.declared.cmp.Ordering.TheVariants.{Less, Equal, Greater}
-use Rattle.cata_core.specs.Entries.{text_cmp}
+use Rattle.cell_core.specs.Entry.{text_cmp}
 use Rattle.json.specs.declared.value.Value.{Value}
 use Rattle.serde_json.specs.Data as plain
 use Rattle.serde_json.specs.Data.{Data, Members, no_members, member}
@@ -127,8 +127,3 @@ pub misfit : (vs : List (Value Global)) (k : ℕ) (v : Value Global) → k < len
 misfit vs k v h is wrong =
     sym (ap (λ b. if b then Some (filter_map as_str (map seen vs)) else None)
     (misfit_at vs k v h is wrong))
-
--- what is left of a list begins with this one
-pub first_left : {A : Type 0} (xs : List A) (k : ℕ) (x : A) → k < length xs → x ≡ get_or xs k x
-    → drop k xs ≡ x ∷ drop (k + 1) xs
-first_left xs k x h is = rw (add-one, drop-cons xs k x) (ap (λ y. y ∷ drop (suc k) xs) (sym is))

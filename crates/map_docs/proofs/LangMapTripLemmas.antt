@@ -2,11 +2,10 @@
 use Rattle.std.proofs.Common.{◌≡◌, ◌∙◌, ◌≢◌, ◌≤◌, ◌+◌, ◌++◌, ℕ, suc, Bool, true, false, List, []}
 use Rattle.std.proofs.Common.{◌∷◌, map, Option, None, Some, length, refl, sym, ap, ap₂, subst}
 use Rattle.std.proofs.Common.{append_assoc, append-nil, inl, inr, arith, true≢false}
-use Rattle.std.specs.Prelude.{◌&&◌, nat_le, ◌||◌, ◌==◌, Decides, IsUtf8, T, if◌then◌else◌}
+use Rattle.std.specs.Prelude.{◌||◌, ◌==◌, Decides, IsUtf8, T, if◌then◌else◌}
 use Rattle.std.specs.Prelude.{option_map, option_and_then, slice_get}
 use Rattle.std.proofs.lemmas.Bool.{eqb-true}
-use Rattle.std.proofs.lemmas.Bool.Decides.{nat_tests}
-use Rattle.std.proofs.lemmas.Cmp.{nat_list_cmp_total, tied_itself}
+use Rattle.std.proofs.lemmas.Cmp.{nat_list_cmp_total}
 use Rattle.std.proofs.lemmas.List.Sorted.{IsPermutation-refl}
 use Rattle.std.proofs.lemmas.Map.Text.{is_eq-slice_cmp}
 use Rattle.std.proofs.lemmas.Slice.Eq.{bytes_eq-Decides}
@@ -20,23 +19,16 @@ use Rattle.std.specs.declared.cmp.Ordering.TheVariants.{Less, Equal, Greater}
 use Rattle.cell_core.specs.Label.{IsLabel}
 use Rattle.cell_core.specs.Keyed.{IsMap}
 use Rattle.cell_core.specs.MessageId.{IsMessageId}
-use Rattle.cata_core.proofs.Basics.{both_parts, first_part, less_than, second_part}
-use Rattle.cata_core.proofs.KeyPlacesLemmas.{below_lesser}
-use Rattle.cata_core.specs.Entries.{EntryKey, key_cmp, text_cmp}
-use Rattle.cata_core.specs.Flat.{flat, under}
+use Rattle.catalogue.proofs.KeyPlacesLemmas.{below_lesser}
+use Rattle.cell_core.specs.Entry.{EntryKey, key_cmp, text_cmp}
+use Rattle.catalogue.specs.Flat.{flat, under}
 use Rattle.json.specs.Json.{value}
 use Rattle.json.specs.Lex.{tokens}
 use Rattle.json.specs.Tree.{HasNumbers, ItemsHaveNumbers, MembersHaveNumbers, depth, items_depth}
 use Rattle.json.specs.Tree.{json_tokens, members_depth}
 use Rattle.json.proofs.Printed.Tokens.{tokens-print}
 use Rattle.json.proofs.Printed.Trees.{ArePrintable-json_tokens, value-json_tokens}
-use Rattle.lang_core.proofs.Basics.{each_true}
-use Rattle.lang_core.proofs.CaseLemmas.{lowered}
-use Rattle.lang_core.proofs.PiecesLemmas.{joined-pieces, pieces-lower}
 use Rattle.lang_core.specs.Tag.{IsTag}
-use Rattle.lang_core.specs.Grammar.{are_allowed, is_alphanum, is_private_piece, is_run, tag_piece}
-use Rattle.lang_core.specs.Text.{joined, pieces}
-use Rattle.std.specs.Char.{to_ascii_lowercase}
 use Rattle.lang_core.specs.Lang.{IsLang}
 use Rattle.serde_json.specs.Data as plain
 use Rattle.serde_json.specs.Data.{Data, member}
@@ -46,7 +38,6 @@ use Rattle.serde_json.specs.View.{items_of}
 use Rattle.serde_json.specs.Written.{compact_text, items_outline, members_outline, outline}
 use Rattle.serde_json.proofs.Texts.{print-outline}
 use Rattle.json_docs.specs.Checks.{AllPass}
-use Rattle.json_docs.specs.Parts.{list_of}
 use Rattle.row_docs.specs.Fields.{IsSpelled}
 use Rattle.row_docs.specs.Texts.{text}
 use Rattle.row_docs.specs.Values.{texts_value}
@@ -64,6 +55,11 @@ use Rattle.map_docs.specs.LangMapRows.{strings_in, strings_of}
 use Rattle.json_docs.proofs.ChecksLemmas.{AllPass-both}
 use Rattle.json_docs.proofs.LineFeed.{read-line_feed}
 use Rattle.json_docs.proofs.ReadingLemmas.{whole}
+use Rattle.row_docs.proofs.RisingKeys.{so_less as is_less}
+use Rattle.row_docs.proofs.WrittenRows.{list_of-items_of as listed}
+use Rattle.row_docs.proofs.LowerLemmas.{lower-IsLang as lower_lang}
+use Rattle.cell_core.proofs.Basics.{both_parts, first_part, less_than, second_part}
+use Rattle.map_docs.proofs.LangMapLabelsLemmas.{same_id as same_first}
 
 -- ---- nothing is lost by messages
 
@@ -94,10 +90,6 @@ all_strings (t ∷ ts) = all_strings ts
 each_string : (texts : List (List ℕ)) → filter_map as_str (map plain.string texts) ≡ texts
 each_string [] = refl
 each_string (t ∷ ts) = ap (λ l. t ∷ l) (each_string ts)
-
-listed : (ds : List Data) → list_of (items_of ds) ≡ ds
-listed [] = refl
-listed (d ∷ ds) = ap (λ l. d ∷ l) (listed ds)
 
 array_strings : (texts : List (List ℕ)) → strings_in (texts_value texts) ≡ Some texts
 array_strings texts =
@@ -190,12 +182,6 @@ below_first k id (l ∷ ls) rest some h apart =
     lesser_id Less b h e = refl
     lesser_id Equal b h e = absurd (true≢false e)
     lesser_id Greater b h e = cc
-
-same_first : (id x y : List ℕ) → key_cmp (id, x) (id, y) ≡ text_cmp x y
-same_first id x y = ap (λ o. ordering_then o (text_cmp x y)) (tied_itself nat_list_cmp_total id)
-
-is_less : (o : Ordering) → o ≡ Less → T (is_lt o)
-is_less o less = subst (λ r. T (is_lt r)) (sym less) tt
 
 below_within : (id x : List ℕ) (ls : Languages) (rest : List Labelled)
     → T (below_all key_cmp (id, x) (under id ls ++ rest)) → T (below_all text_cmp x ls)
@@ -326,45 +312,6 @@ keys_of-languages [] = refl
 keys_of-languages (l ∷ ls) =
     ap₂ (λ (s : Strings) (ks : Keys). (l.0, s) ∷ ks) (strings_in-language l.1)
     (keys_of-languages ls)
-
--- ---- a tag is in lower case
-
-lower_byte : (b : ℕ) → is_alphanum b ≡ true → to_ascii_lowercase b ≡ b
-lower_byte b h = grind (arith, nat_tests)
-
-lower_bytes : (text : List ℕ) → list_all is_alphanum text ≡ true
-    → str_to_ascii_lowercase text ≡ text
-lower_bytes [] h = refl
-lower_bytes (b ∷ text) h =
-    let parts = each_true (is_alphanum b) (list_all is_alphanum text) h in
-    let byte : to_ascii_lowercase b ≡ b = lower_byte b parts.0 in
-    let rest : str_to_ascii_lowercase text ≡ text = lower_bytes text parts.1 in
-    cc
-
-lower_piece : (s : List ℕ) → is_private_piece s ≡ true → str_to_ascii_lowercase s ≡ s
-unfolding is_private_piece is_run
-lower_piece s h =
-    lower_bytes s (each_true (nat_le 1 (length s) && nat_le (length s) 8) (list_all is_alphanum s)
-    h).1
-
-lower_pieces : (place : ℕ) (list : List (List ℕ)) → are_allowed tag_piece place list ≡ true
-    → lowered list ≡ list
-lower_pieces place [] h = refl
-lower_pieces place (s ∷ list) h =
-    let parts = each_true (tag_piece place s) (are_allowed tag_piece (place + 1) list) h in
-    ap₂ (λ (x : List ℕ) (xs : List (List ℕ)). x ∷ xs) (lower_piece s parts.0)
-    (lower_pieces (place + 1) list parts.1)
-
-lower_tag : (text : List ℕ) → IsTag text → str_to_ascii_lowercase text ≡ text
-lower_tag text tag =
-    sym (joined-pieces (str_to_ascii_lowercase text))
-    ∙ ap joined (pieces-lower text ∙ lower_pieces 0 (pieces text) tag.1) ∙ joined-pieces text
-
-lower_lang : (lang : List ℕ) → IsLang lang → str_to_ascii_lowercase lang ≡ lang
-lower_lang lang is = elim is [
-  | inl none ↦ ap str_to_ascii_lowercase none ∙ sym none
-  | inr tag ↦ lower_tag lang tag
-]
 
 labelled_back : (l : List ℕ × List (List ℕ)) → str_to_ascii_lowercase l.0 ≡ l.0 → IsLabel l.1
     → labelled (some_strings l) ≡ Some l

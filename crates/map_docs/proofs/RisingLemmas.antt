@@ -24,10 +24,11 @@ use Rattle.cell_core.specs.Label.{IsLabel}
 use Rattle.cell_core.specs.Keyed.{IsMap}
 use Rattle.cell_core.specs.MessageId.{IsMessageId}
 use Rattle.lang_core.specs.Lang.{SpellsLang}
-use Rattle.cata_core.specs.Entries.{IsAboveAll, key_cmp, text_cmp}
-use Rattle.cata_core.specs.Flat.{under}
-use Rattle.cata_core.proofs.BehindLemmas.{IsMap-behind}
-use Rattle.cata_core.proofs.FlatLemmas.{all_first, all_rest}
+use Rattle.cell_core.specs.Entry.{key_cmp, text_cmp}
+use Rattle.catalogue.specs.Entries.{IsAboveAll}
+use Rattle.catalogue.specs.Flat.{under}
+use Rattle.catalogue.proofs.BehindLemmas.{IsMap-behind}
+use Rattle.catalogue.proofs.FlatLemmas.{all_first, all_rest}
 use Rattle.json_docs.proofs.ReadingLemmas.{converted-array}
 use Rattle.json_docs.specs.Arrays.{ReadsItems}
 use Rattle.json_docs.specs.Checks.{AllPass}

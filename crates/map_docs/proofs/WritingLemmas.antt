@@ -5,7 +5,7 @@ use Rattle.std.specs.Prelude.{◌||◌, Err, IfOk, IfSome, IsUtf8, None, Ok, Opt
 use Rattle.std.specs.Prelude.{is_some}
 use Rattle.cell_core.specs.Keyed.{IsMap}
 use Rattle.cell_core.specs.MessageId.{IsMessageId}
-use Rattle.cata_core.specs.Entries.{key_cmp}
+use Rattle.cell_core.specs.Entry.{key_cmp}
 use Rattle.json.specs.Token.{begin_object}
 use Rattle.json.specs.Written.{Written}
 use Rattle.row_docs.specs.Texts.{Adds, text}

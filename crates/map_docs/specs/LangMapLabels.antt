@@ -5,8 +5,8 @@ use Rattle.std.specs.List.{filter_map, flat_map}
 use Rattle.std.specs.List.Sorted.{IsPermutation}
 use Rattle.std.specs.Str.{str_to_ascii_lowercase}
 use Rattle.cell_core.specs.Keyed.{IsMap}
-use Rattle.cata_core.specs.Entries.{key_cmp}
-use Rattle.cata_core.specs.Flat.{under}
+use Rattle.cell_core.specs.Entry.{key_cmp}
+use Rattle.catalogue.specs.Flat.{under}
 use Rattle.serde_json.specs.Data.{Data}
 use Rattle.json_docs.specs.Checks.{AllPass, AreJson, IsRefusal}
 use Rattle.json_docs.specs.declared.fault.DocCause.{DocCause}

@@ -4,7 +4,7 @@ use Rattle.std.specs.List.{AllByRecursion}
 use Rattle.cell_core.specs.Label.{IsLabel}
 use Rattle.cell_core.specs.Keyed.{IsMap}
 use Rattle.cell_core.specs.MessageId.{IsMessageId}
-use Rattle.cata_core.specs.Entries.{key_cmp}
+use Rattle.cell_core.specs.Entry.{key_cmp}
 use Rattle.lang_core.specs.Lang.{IsLang}
 use Rattle.row_docs.specs.Texts.{text}
 use Rattle.map_docs.specs.LangMapLabels.{AreLangMaps}

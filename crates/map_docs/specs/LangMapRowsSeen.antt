@@ -11,8 +11,8 @@ use Rattle.std.specs.declared.alloc.Global.{Global}
 use Rattle.std.specs.declared.cmp.Ordering.TheVariants.{Less}
 use Rattle.cell_core.specs.Label.{texts_of}
 use Rattle.cell_core.specs.Keyed.{IsMap}
-use Rattle.cata_core.specs.Entries.{text_cmp}
-use Rattle.cata_core.specs.Flat.{under}
+use Rattle.cell_core.specs.Entry.{text_cmp}
+use Rattle.catalogue.specs.Flat.{under}
 use Rattle.map_docs.specs.LangMapChecks.{is_marked}
 use Rattle.map_docs.specs.LangMapLabels.{languages_of}
 use Rattle.map_docs.specs.LangMapRows.{Keys, Rows, Strings}

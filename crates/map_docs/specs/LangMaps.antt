@@ -1,6 +1,6 @@
 -- Language maps as one list of labels, in ascending order of key.
 use Rattle.std.specs.Prelude.{ℕ, List, map}
-use Rattle.cata_core.specs.Entries.{EntryKey}
+use Rattle.cell_core.specs.Entry.{EntryKey}
 use Rattle.map_docs.specs.declared.maps.KeyedLabel.{KeyedLabel}
 
 -- a message's id and a language, with the texts of their label

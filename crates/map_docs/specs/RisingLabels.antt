@@ -1,8 +1,8 @@
 -- Labels of a message that are given on as they are read.
 use Rattle.std.specs.Prelude.{ℕ, List, [], ◌++◌}
 use Rattle.cell_core.specs.Keyed.{IsMap}
-use Rattle.cata_core.specs.Entries.{key_cmp}
-use Rattle.cata_core.specs.Flat.{under}
+use Rattle.cell_core.specs.Entry.{key_cmp}
+use Rattle.catalogue.specs.Flat.{under}
 use Rattle.json_docs.specs.Checks.{AllPass}
 use Rattle.map_docs.specs.LangMapChecks.{keys_checks}
 use Rattle.map_docs.specs.LangMapLabels.{languages_of}

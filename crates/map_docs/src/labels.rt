@@ -3,8 +3,8 @@ ghost use Rattle.std.specs.Prelude.{◌≡◌, ◌++◌, ◌∷◌, ◌<◌, ◌
 ghost use Rattle.std.specs.Prelude.{IfErr, OnOk, IfOk, map, string_bytes, unwrap_or, length};
 ghost use Rattle.std.specs.List.Sorted.{IsPermutation};
 ghost use Rattle.cell_core.specs.Keyed.{IsMap};
-ghost use Rattle.cata_core.specs.Entries.{key_cmp, text_cmp};
-ghost use Rattle.cata_core.specs.Flat.{under};
+ghost use Rattle.cell_core.specs.Entry.{key_cmp, text_cmp};
+ghost use Rattle.catalogue.specs.Flat.{under};
 ghost use Rattle.json_docs.specs.Checks.{AllPass, FirstFails, OrMemory};
 ghost use Rattle.json_docs.specs.declared.fault.DocCause.TheVariants.{Field, NoMemory};
 ghost use Rattle.json_docs.specs.declared.fault.DocCause.TheVariants.{Shape as ShapeRefused};

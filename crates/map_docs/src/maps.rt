@@ -3,7 +3,7 @@ ghost use Rattle.std.specs.Prelude.{◌≡◌, ◌==◌, ◌++◌, ◌∷◌, []
 ghost use Rattle.std.specs.Prelude.{option_map};
 ghost use Rattle.std.specs.Slice.Iter.{iter_rest};
 ghost use Rattle.cell_core.specs.Keyed.{IsMap};
-ghost use Rattle.cata_core.specs.Entries.{key_cmp};
+ghost use Rattle.cell_core.specs.Entry.{key_cmp};
 
 use cell_core::{Label, MessageId};
 use lang_core::Lang;
@@ -32,7 +32,7 @@ pub struct LangMaps {
 impl Model for LangMaps {
     ghost use Rattle.std.specs.Prelude.{List};
     ghost use Rattle.cell_core.specs.Keyed.{IsMap};
-    ghost use Rattle.cata_core.specs.Entries.{key_cmp};
+    ghost use Rattle.cell_core.specs.Entry.{key_cmp};
     ghost use Rattle.map_docs.specs.LangMaps.{Labelled, labels_of};
 
     ghost Value = { List Labelled };
@@ -43,7 +43,7 @@ impl Model for LangMaps {
 }
 
 impl LangMaps {
-    ghost use Rattle.cata_core.specs.Entries.{IsAboveAll};
+    ghost use Rattle.catalogue.specs.Entries.{IsAboveAll};
     ghost use Rattle.map_docs.specs.LangMaps.{labels_of};
 
     /// No label yet. The list grows by this allocator; it takes no memory now.

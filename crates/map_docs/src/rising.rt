@@ -8,7 +8,7 @@ ghost use Rattle.cell_core.specs.Label.{IsLabel};
 ghost use Rattle.cell_core.specs.Keyed.{IsMap};
 ghost use Rattle.cell_core.specs.MessageId.{IsMessageId};
 ghost use Rattle.lang_core.specs.Lang.{SpellsLang};
-ghost use Rattle.cata_core.specs.Entries.{key_cmp, text_cmp};
+ghost use Rattle.cell_core.specs.Entry.{key_cmp, text_cmp};
 ghost use Rattle.json_docs.specs.Arrays.{ReadsItems};
 ghost use Rattle.json_docs.specs.Checks.{AllPass};
 ghost use Rattle.json_docs.specs.MembersRead.{ReadsMembers};

@@ -1,6 +1,6 @@
 //! What takes the labels of a document one after another, as they are read.
 ghost use Rattle.std.specs.Prelude.{◌≡◌, ◌++◌, ◌∷◌, [], List, IfSome};
-ghost use Rattle.cata_core.specs.Entries.{IsAboveAll};
+ghost use Rattle.catalogue.specs.Entries.{IsAboveAll};
 ghost use Rattle.map_docs.specs.LangMaps.{Labelled};
 
 use crate::maps::LangMaps;

@@ -5,7 +5,7 @@ ghost use Rattle.json.specs.Token.{begin_object, end_object, key};
 ghost use Rattle.cell_core.specs.Label.{IsLabel, texts_of};
 ghost use Rattle.cell_core.specs.Keyed.{IsMap};
 ghost use Rattle.cell_core.specs.MessageId.{IsMessageId};
-ghost use Rattle.cata_core.specs.Entries.{key_cmp};
+ghost use Rattle.cell_core.specs.Entry.{key_cmp};
 ghost use Rattle.lang_core.specs.Lang.{IsLang};
 ghost use Rattle.row_docs.specs.Texts.{Adds, text, value_tokens};
 ghost use Rattle.map_docs.specs.LangMapLabels.{AreLangMaps};

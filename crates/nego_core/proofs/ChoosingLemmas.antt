@@ -1,7 +1,7 @@
 -- What the whole list refuses, and the default.
 use Rattle.std.proofs.Common.{◌≡◌, Bool, true, false, refl, sym, ◌∙◌}
 use Rattle.std.specs.Prelude.{IsTrue, ◌↔◌, not}
-use Rattle.nego_core.proofs.Basics.{false_true}
+use Rattle.list_core.proofs.Basics.{false_true}
 
 open_on : (Refuses : Type 0) (r : Bool) → IsTrue r ↔ Refuses → IsTrue (not r) ↔ (¬ Refuses)
 open_on Refuses true b = ((λ f. absurd (false_true f)), (λ n. absurd (n (b.0 refl))))

@@ -13,24 +13,26 @@ use Rattle.std.proofs.lemmas.Option.{slice_get_past}
 use Rattle.std.proofs.lemmas.List.Elements.{All-push, All-weaker}
 use Rattle.std.proofs.lemmas.List.Elements.{Contains-append_left, Contains-push}
 use Rattle.lang_core.specs.Text.{pieces}
-use Rattle.nego_core.specs.Item.{Item}
+use Rattle.list_core.specs.Item.{Item}
 use Rattle.nego_core.specs.Choosing.{MatchFirstOf, candidates_at}
-use Rattle.nego_core.specs.Deciding.{NamedRefuse}
-use Rattle.nego_core.specs.FirstTried.{IsFirstTried, item_tried}
-use Rattle.nego_core.specs.LookupOrder.{AreOrderKeys}
+use Rattle.list_core.specs.Deciding.{NamedRefuse}
+use Rattle.list_core.specs.FirstTried.{IsFirstTried, item_tried}
+use Rattle.list_core.specs.LookupOrder.{AreOrderKeys}
 use Rattle.nego_core.specs.WidenedChoice.{IsFirstWidenedAt, IsMatchedAt, IsMatchedFirst}
 use Rattle.nego_core.specs.WidenedChoice.{IsNotBefore, MatchEarliest, is_earlier}
-use Rattle.nego_core.specs.Widening.{Ascends, MatchesLang}
-use Rattle.nego_core.specs.declared.lookup_order.OrderKey.{OrderKey}
-use Rattle.nego_core.specs.declared.scheme.Scheme.{Scheme}
+use Rattle.nego_core.specs.Widening.{Ascends}
+use Rattle.list_core.specs.Deciding.{MatchesLang}
+use Rattle.list_core.specs.declared.lookup_order.OrderKey.{OrderKey}
+use Rattle.list_core.specs.declared.scheme.Scheme.{Scheme}
 use Rattle.nego_core.specs.declared.widened_choice.Earliest.{Earliest}
-use Rattle.nego_core.proofs.Basics.{false_true}
+use Rattle.list_core.proofs.Basics.{false_true}
+use Rattle.lang_core.proofs.Basics.{less_of as lt_less}
 use Rattle.nego_core.proofs.FilteringKeys.{take_next}
-use Rattle.nego_core.proofs.FirstTriedLemmas.{tried_at}
-use Rattle.nego_core.proofs.LookupOrderLemmas.{one_keys}
+use Rattle.list_core.proofs.FirstTriedLemmas.{tried_at}
+use Rattle.list_core.proofs.LookupOrderLemmas.{one_keys}
 use Rattle.nego_core.proofs.WideningLemmas.{Fits, MatchLeast, Open, by_candidate, by_match, by_none}
 use Rattle.nego_core.proofs.WideningLemmas.{first_among}
-use Rattle.nego_core.proofs.WideningLemmas.{less_lt, lt_less, not_itself}
+use Rattle.nego_core.proofs.WideningLemmas.{less_lt, not_itself}
 
 -- ---- one language
 

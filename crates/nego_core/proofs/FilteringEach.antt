@@ -8,13 +8,13 @@ use Rattle.std.proofs.lemmas.List.Sorted.{All-permutation, Contains-permutation}
 use Rattle.std.proofs.lemmas.Option.{slice_get_within, get_or_from_slice_get}
 use Rattle.lang_core.specs.Text.{pieces}
 use Rattle.lang_core.specs.Lang.{tag_of}
-use Rattle.nego_core.proofs.Basics.{contains_first, contains_later, contains_map}
+use Rattle.list_core.proofs.Basics.{contains_first, contains_later, contains_map}
 use Rattle.nego_core.proofs.FilteringLemmas.{one_key}
-use Rattle.nego_core.specs.Item.{Item}
-use Rattle.nego_core.specs.Deciding.{DecidesLang, IsDecidedBy}
+use Rattle.list_core.specs.Item.{Item}
+use Rattle.list_core.specs.Deciding.{DecidesLang, IsDecidedBy}
 use Rattle.nego_core.specs.Filtering.{Key, IsKey, AreKeys, IsFiltered, IsPicked, pick_of}
 use Rattle.nego_core.specs.declared.filtering.Pick.{Pick}
-use Rattle.nego_core.specs.declared.scheme.Scheme.{Scheme}
+use Rattle.list_core.specs.declared.scheme.Scheme.{Scheme}
 
 -- The key of a language of the list, at its place counted from a first one.
 pub record IsKeyFrom (scheme : Scheme) (items : List Item) (from : ℕ) (langs : List (List ℕ))

@@ -6,12 +6,12 @@ use Rattle.std.specs.Prelude.{map, IsSorted, IsPermutation}
 use Rattle.std.proofs.lemmas.List.{length-map, get_or-map, map-append}
 use Rattle.nego_core.specs.Filtering.{filter_key_cmp, IsFiltered, IsKey, HasNoKey, AreKeys, pick_of}
 use Rattle.nego_core.specs.Filtering.{Key, key_cmp, key_of}
-use Rattle.nego_core.specs.Deciding.{DecidesLang}
-use Rattle.nego_core.specs.Item.{Item}
+use Rattle.list_core.specs.Deciding.{DecidesLang}
+use Rattle.list_core.specs.Item.{Item}
 use Rattle.std.proofs.lemmas.List.Sorted.{IsPermutation-map}
 use Rattle.nego_core.specs.declared.filtering.Pick.{Pick}
-use Rattle.nego_core.specs.declared.scheme.Scheme.{Scheme}
-use Rattle.nego_core.proofs.DecidingLemmas.{one_decision}
+use Rattle.list_core.specs.declared.scheme.Scheme.{Scheme}
+use Rattle.list_core.proofs.DecidingLemmas.{one_decision}
 use Rattle.nego_core.specs.declared.filtering.FilterKey.{FilterKey}
 
 key_in : (x : FilterKey) (xs : List FilterKey) (k : ℕ) (d : Key) → k < length xs

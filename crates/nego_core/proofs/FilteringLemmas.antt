@@ -4,11 +4,11 @@ use Rattle.std.specs.Prelude.{map, IsPermutation}
 use Rattle.std.specs.declared.cmp.Ordering.TheVariants.{Equal}
 use Rattle.std.specs.Cmp.{IsTotalOrder}
 use Rattle.std.proofs.lemmas.Cmp.{nat_cmp_total, nat_list_cmp_total, on_total, then_total}
-use Rattle.nego_core.proofs.Unique.{one_order, then_tied, nat_tied, text_tied}
-use Rattle.nego_core.specs.Item.{Item}
+use Rattle.list_core.proofs.Unique.{one_order, then_tied, nat_tied, text_tied}
+use Rattle.list_core.specs.Item.{Item}
 use Rattle.nego_core.specs.Filtering.{IsFiltered, IsKey, AreKeys, Key, key_cmp, pick_of}
-use Rattle.nego_core.specs.declared.scheme.Scheme.{Scheme}
-use Rattle.nego_core.proofs.DecidingLemmas.{one_decision}
+use Rattle.list_core.specs.declared.scheme.Scheme.{Scheme}
+use Rattle.list_core.proofs.DecidingLemmas.{one_decision}
 use Rattle.nego_core.specs.declared.filtering.Pick.{Pick}
 
 key_total : IsTotalOrder key_cmp

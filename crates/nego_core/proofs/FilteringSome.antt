@@ -3,14 +3,14 @@ use Rattle.std.proofs.Common.{ℕ, ◌≡◌, ◌<◌, ◌+◌, List, [], ◌∷
 use Rattle.std.specs.Prelude.{Result, Ok, Err, IsErr, IsErrAnd, MatchResult, map}
 use Rattle.std.specs.List.{slice_get}
 use Rattle.std.proofs.lemmas.List.Elements.{All-head}
-use Rattle.nego_core.proofs.Basics.{stands_at}
+use Rattle.list_core.proofs.Basics.{stands_at}
 use Rattle.nego_core.proofs.FilteringKeys.{text_within, text_at}
 use Rattle.nego_core.proofs.FilteringEach.{IsKeyFrom, keys_right}
-use Rattle.nego_core.specs.Item.{Item}
+use Rattle.list_core.specs.Item.{Item}
 use Rattle.nego_core.specs.Filtering.{Key, IsKey, AreKeys, HasPick}
-use Rattle.nego_core.specs.declared.fault.NegoFault.{NegoFault}
-use Rattle.nego_core.specs.declared.fault.NegoFault.TheVariants.{NoMemory}
-use Rattle.nego_core.specs.declared.scheme.Scheme.{Scheme}
+use Rattle.list_core.specs.declared.fault.NegoFault.{NegoFault}
+use Rattle.list_core.specs.declared.fault.NegoFault.TheVariants.{NoMemory}
+use Rattle.list_core.specs.declared.scheme.Scheme.{Scheme}
 
 -- Something is picked where the language at a place has a key.
 pub pick_of_key : (scheme : Scheme) (items : List Item) (langs : List (List ℕ)) (lang : List ℕ)

@@ -7,10 +7,10 @@ use Rattle.std.proofs.lemmas.List.Elements.{All-contains, All-contains_itself, A
 use Rattle.std.proofs.lemmas.List.Elements.{Contains-append_cases, Contains-append_left}
 use Rattle.std.proofs.lemmas.List.Elements.{Contains-append_right}
 use Rattle.std.proofs.lemmas.List.Sorted.{All-permutation, Contains-permutation}
-use Rattle.nego_core.proofs.Basics.{all_passed, contains_first, contains_passed, stands_at}
+use Rattle.list_core.proofs.Basics.{all_passed, contains_first, contains_passed, stands_at}
 use Rattle.nego_core.proofs.LookupOrderEach.{each_once}
-use Rattle.nego_core.specs.Item.{Item}
-use Rattle.nego_core.specs.LookupOrder.{is_tried, IsOrder}
+use Rattle.list_core.specs.Item.{Item}
+use Rattle.list_core.specs.LookupOrder.{is_tried, IsOrder}
 use Rattle.nego_core.specs.Choosing.{IsOpen, IsLookedUp, candidates_of, all_candidates}
 
 -- an item of the list that is tried

@@ -3,11 +3,11 @@ use Rattle.std.proofs.Common.{ℕ, ◌≡◌, List, Some, None, Option, refl, sy
 use Rattle.lang_core.specs.Text.{pieces}
 use Rattle.nego_core.proofs.LookupPlacesLemmas.{has_default, same_place, same_text}
 use Rattle.nego_core.proofs.WideningLemmas.{one_widened}
-use Rattle.nego_core.specs.Item.{Item}
+use Rattle.list_core.specs.Item.{Item}
 use Rattle.nego_core.specs.Widening.{IsFoundWidened, IsLookedUpWidened}
 use Rattle.nego_core.specs.declared.lookup_places.Found.{Found}
 use Rattle.nego_core.specs.declared.lookup_places.Found.TheVariants.{Matched, Default, Nothing}
-use Rattle.nego_core.specs.declared.scheme.Scheme.{Scheme}
+use Rattle.list_core.specs.declared.scheme.Scheme.{Scheme}
 
 text_or_none : (s : Scheme) (items : List Item) (langs : List (List ℕ)) (text : List ℕ)
     → IsLookedUpWidened s items langs (Some (pieces text))

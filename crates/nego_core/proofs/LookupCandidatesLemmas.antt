@@ -9,17 +9,17 @@ use Rattle.std.proofs.lemmas.Option.{slice_get_past}
 use Rattle.std.proofs.lemmas.List.{drop_all}
 use Rattle.std.proofs.lemmas.List.Elements.{All-nil, All-cons, All-append, All-head, All-tail}
 use Rattle.lang_core.specs.Text.{pieces}
-use Rattle.nego_core.proofs.Basics.{element_at, same_default, stands_at}
-use Rattle.nego_core.proofs.Prefixes.{joined-pieces}
-use Rattle.nego_core.proofs.DecidingLemmas.{one_item_weight, most_specific, weight_is}
-use Rattle.nego_core.proofs.LookupOrderLemmas.{one_order_of}
-use Rattle.nego_core.specs.Item.{Item}
-use Rattle.nego_core.specs.Deciding.{IsBest, MatchesNamed, NamedRefuse}
+use Rattle.list_core.proofs.Basics.{element_at, same_default, stands_at}
+use Rattle.list_core.proofs.Prefixes.{joined-pieces}
+use Rattle.list_core.proofs.DecidingLemmas.{one_item_weight, most_specific, weight_is}
+use Rattle.list_core.proofs.LookupOrderLemmas.{one_order_of}
+use Rattle.list_core.specs.Item.{Item}
+use Rattle.list_core.specs.Deciding.{IsBest, MatchesNamed, NamedRefuse}
 use Rattle.nego_core.specs.Choosing.{candidates_of, candidates_at, all_candidates, IsOpen}
 use Rattle.nego_core.specs.Choosing.{IsFirst, MatchFirstOf, IsLookedUp}
-use Rattle.nego_core.specs.LookupOrder.{AreOrderKeys}
-use Rattle.nego_core.specs.declared.deciding.MostSpecific.{MostSpecific}
-use Rattle.nego_core.specs.declared.lookup_order.OrderKey.{OrderKey}
+use Rattle.list_core.specs.LookupOrder.{AreOrderKeys}
+use Rattle.list_core.specs.declared.deciding.MostSpecific.{MostSpecific}
+use Rattle.list_core.specs.declared.lookup_order.OrderKey.{OrderKey}
 
 -- ---- what the items other than "*" refuse
 

@@ -13,13 +13,13 @@ use Rattle.std.proofs.lemmas.List.Kept.{AllPairs-cons, AllPairs-filter, IsSorted
 use Rattle.std.proofs.lemmas.List.Sorted.{All-permutation, IsPermutation-map, sorted_far, ranks_by}
 use Rattle.std.proofs.lemmas.List.Sorted.{sum_by-IsPermutation}
 use Rattle.std.proofs.lemmas.List.Sums.{sum_by-cons}
-use Rattle.nego_core.proofs.Basics.{all_at, all_passed, pairs_map}
-use Rattle.nego_core.proofs.Unique.{same_sums}
-use Rattle.nego_core.proofs.LookupOrderLemmas.{order_key_total, order_key_tied}
+use Rattle.list_core.proofs.Basics.{all_at, all_passed, pairs_map}
+use Rattle.list_core.proofs.Unique.{same_sums}
+use Rattle.list_core.proofs.LookupOrderLemmas.{order_key_total, order_key_tied}
 use Rattle.nego_core.proofs.LookupCandidatesLemmas.{ordered_items}
-use Rattle.nego_core.specs.Item.{Item}
-use Rattle.nego_core.specs.LookupOrder.{is_tried, order_key_cmp, order_keys_from, IsOrder}
-use Rattle.nego_core.specs.declared.lookup_order.OrderKey.{OrderKey}
+use Rattle.list_core.specs.Item.{Item}
+use Rattle.list_core.specs.LookupOrder.{is_tried, order_key_cmp, order_keys_from, IsOrder}
+use Rattle.list_core.specs.declared.lookup_order.OrderKey.{OrderKey}
 
 -- ---- the keys in written order
 

@@ -3,11 +3,11 @@ use Rattle.std.proofs.Common.{ℕ, ◌<◌, List, Some, None, Option, arith}
 use Rattle.std.specs.Prelude.{IsSomeAnd}
 use Rattle.lang_core.specs.Text.{pieces}
 use Rattle.lang_core.specs.Lang.{tag_of}
-use Rattle.nego_core.proofs.Basics.{all_at}
-use Rattle.nego_core.specs.Item.{Item}
-use Rattle.nego_core.specs.Deciding.{IsDecidedBy, NamedRefuse, IsRefusedLang}
-use Rattle.nego_core.specs.Unweighted.{AllPositive}
-use Rattle.nego_core.specs.declared.scheme.Scheme.{Scheme}
+use Rattle.list_core.proofs.Basics.{all_at}
+use Rattle.list_core.specs.Item.{Item}
+use Rattle.list_core.specs.Deciding.{IsDecidedBy, NamedRefuse, IsRefusedLang}
+use Rattle.list_core.specs.Item.{AllPositive}
+use Rattle.list_core.specs.declared.scheme.Scheme.{Scheme}
 
 -- Where no weight is 0, the items other than "*" refuse no tag.
 pub no_tag_refused : (items : List Item) (tag : List (List ℕ)) → AllPositive items

@@ -10,12 +10,12 @@ use Rattle.std.proofs.lemmas.List.Elements.{All-nil, All-cons, All-weaker}
 use Rattle.std.proofs.lemmas.List.Kept.{AllPairs-cons}
 use Rattle.std.proofs.lemmas.List.Sorted.{sum_by-IsPermutation}
 use Rattle.std.proofs.lemmas.List.Sums.{sum_by-cons, sum_by_more_le, get_or-le-sum_by}
-use Rattle.nego_core.proofs.Basics.{pairs_map}
-use Rattle.nego_core.proofs.Unique.{sum_none, next_is}
-use Rattle.nego_core.specs.Item.{Item}
+use Rattle.list_core.proofs.Basics.{pairs_map}
+use Rattle.list_core.proofs.Unique.{sum_none, next_is}
+use Rattle.list_core.specs.Item.{Item}
 use Rattle.nego_core.specs.Filtering.{Key, AreKeys, IsFiltered, pick_of}
 use Rattle.nego_core.specs.declared.filtering.Pick.{Pick}
-use Rattle.nego_core.specs.declared.scheme.Scheme.{Scheme}
+use Rattle.list_core.specs.declared.scheme.Scheme.{Scheme}
 
 -- ---- the keys of the languages, before they are sorted
 

@@ -20,33 +20,33 @@ use Rattle.std.proofs.lemmas.List.Elements.{Contains-push}
 use Rattle.std.proofs.lemmas.List.Sorted.{All-permutation, Contains-permutation, ranks_by}
 use Rattle.std.proofs.lemmas.List.Sorted.{sorted_far}
 use Rattle.lang_core.specs.Text.{pieces, joined}
-use Rattle.nego_core.proofs.Basics.{contains_cases, contains_map, element_at, false_true}
-use Rattle.nego_core.proofs.Basics.{same_default, stands_at}
+use Rattle.list_core.proofs.Basics.{contains_cases, contains_map, element_at, false_true}
+use Rattle.list_core.proofs.Basics.{same_default, stands_at}
 use Rattle.nego_core.proofs.EarliestLemmas.{matched_item}
 use Rattle.nego_core.proofs.FilteringKeys.{take_next}
-use Rattle.nego_core.proofs.FirstTriedLemmas.{tried_at}
+use Rattle.list_core.proofs.FirstTriedLemmas.{tried_at}
 use Rattle.nego_core.proofs.LangSetLemmas.{among_contains, contains_among}
 use Rattle.nego_core.proofs.LookupCandidatesLemmas.{first_append, first_front, ordered_items}
 use Rattle.nego_core.proofs.LookupCandidatesLemmas.{looked_up as looked_up_off}
-use Rattle.nego_core.proofs.Prefixes.{joined-pieces}
+use Rattle.list_core.proofs.Prefixes.{joined-pieces}
 use Rattle.nego_core.proofs.WideningLemmas.{Fits, Open, all_widened, first_among, first_split}
 use Rattle.nego_core.proofs.WideningLemmas.{matched_are, matched_of, none_back, none_front}
 use Rattle.nego_core.proofs.WideningLemmas.{least_first, less_lt, looked_up as looked_up_by}
 use Rattle.nego_core.specs.Filtering.{texts_of}
-use Rattle.nego_core.specs.Item.{Item}
+use Rattle.list_core.specs.Item.{Item}
 use Rattle.nego_core.specs.LangSet.{is_among}
 use Rattle.nego_core.specs.Choosing.{MatchFirstOf, all_candidates, candidates_of}
-use Rattle.nego_core.specs.Deciding.{NamedRefuse}
-use Rattle.nego_core.specs.FirstTried.{item_tried}
-use Rattle.nego_core.specs.LookupOrder.{AreOrderKeys}
+use Rattle.list_core.specs.Deciding.{NamedRefuse}
+use Rattle.list_core.specs.FirstTried.{item_tried}
+use Rattle.list_core.specs.LookupOrder.{AreOrderKeys}
 use Rattle.nego_core.specs.Shortlist.{AreAmong, AreMatchedBy, AreMatchedLangs, IsLookedUpBy}
 use Rattle.nego_core.specs.Shortlist.{IsOneOf}
 use Rattle.nego_core.specs.Shortlist.{IsRanking, matched_cmp}
 use Rattle.nego_core.specs.Unranked.{Spells, TakesFrom}
 use Rattle.nego_core.specs.WidenedChoice.{IsMatchedAt, IsMatchedFirst}
 use Rattle.nego_core.specs.Widening.{Ascends}
-use Rattle.nego_core.specs.declared.lookup_order.OrderKey.{OrderKey}
-use Rattle.nego_core.specs.declared.scheme.Scheme.{Scheme}
+use Rattle.list_core.specs.declared.lookup_order.OrderKey.{OrderKey}
+use Rattle.list_core.specs.declared.scheme.Scheme.{Scheme}
 use Rattle.nego_core.specs.declared.shortlist.MatchedLang.{MatchedLang}
 use Rattle.nego_core.specs.declared.widening.Widening.{Widening}
 use Rattle.nego_core.specs.declared.widening.Widening.TheVariants.{Off, By}

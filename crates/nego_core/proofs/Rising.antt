@@ -11,8 +11,8 @@ use Rattle.std.proofs.lemmas.Cmp.{nat_list_cmp_total}
 use Rattle.std.proofs.lemmas.List.Elements.{All-nil, All-cons, All-head, All-tail, All-contains}
 use Rattle.std.proofs.lemmas.List.Elements.{All-weaker}
 use Rattle.std.proofs.lemmas.List.Kept.{AllPairs-cons}
-use Rattle.nego_core.proofs.Basics.{contains_cases, contains_first, contains_later}
-use Rattle.nego_core.proofs.Unique.{text_tied}
+use Rattle.list_core.proofs.Basics.{contains_cases, contains_first, contains_later}
+use Rattle.list_core.proofs.Unique.{text_tied}
 use Rattle.nego_core.specs.Widening.{Ascends}
 
 -- the first text of an ascending list is below all others

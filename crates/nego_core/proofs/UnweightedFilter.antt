@@ -8,15 +8,16 @@ use Rattle.std.proofs.lemmas.List.Sorted.{All-permutation, Contains-permutation}
 use Rattle.std.proofs.lemmas.Option.{slice_get_within, get_or_from_slice_get}
 use Rattle.lang_core.specs.Text.{pieces}
 use Rattle.lang_core.specs.Lang.{tag_of}
-use Rattle.nego_core.proofs.Basics.{all_at, contains_map, contains_from_map}
-use Rattle.nego_core.proofs.MatchedLemmas.{a_match_decides}
+use Rattle.list_core.proofs.Basics.{all_at, contains_map, contains_from_map}
+use Rattle.list_core.proofs.MatchedLemmas.{a_match_decides}
 use Rattle.nego_core.proofs.FilteringEach.{IsKeyFrom, keys_right, keys_all}
-use Rattle.nego_core.specs.Item.{Item}
-use Rattle.nego_core.specs.Deciding.{IsDecidedBy}
+use Rattle.list_core.specs.Item.{Item}
+use Rattle.list_core.specs.Deciding.{IsDecidedBy}
 use Rattle.nego_core.specs.Filtering.{Key, IsKey, AreKeys, IsFiltered, pick_of}
-use Rattle.nego_core.specs.Unweighted.{AllPositive, MatchesSome, IsMatchedAt}
+use Rattle.nego_core.specs.Unweighted.{MatchesSome, IsMatchedAt}
+use Rattle.list_core.specs.Item.{AllPositive}
 use Rattle.nego_core.specs.declared.filtering.Pick.{Pick}
-use Rattle.nego_core.specs.declared.scheme.Scheme.{Scheme}
+use Rattle.list_core.specs.declared.scheme.Scheme.{Scheme}
 
 -- ---- what is picked is matched
 

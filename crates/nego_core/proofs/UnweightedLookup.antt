@@ -7,12 +7,13 @@ use Rattle.std.proofs.lemmas.List.Elements.{All-head, All-tail, All-weaker}
 use Rattle.std.proofs.lemmas.List.Sorted.{IsPermutation-refl}
 use Rattle.lang_core.specs.Text.{joined}
 use Rattle.nego_core.proofs.NothingRefused.{no_tag_refused}
-use Rattle.nego_core.proofs.LookupOrderLemmas.{one_order_of}
+use Rattle.list_core.proofs.LookupOrderLemmas.{one_order_of}
 use Rattle.nego_core.proofs.LookupOrderEach.{one_weight_sorted, turns_lack, turns_rise, tried_are}
-use Rattle.nego_core.specs.Item.{Item}
-use Rattle.nego_core.specs.LookupOrder.{is_tried, order_keys_from, IsOrder}
+use Rattle.list_core.specs.Item.{Item}
+use Rattle.list_core.specs.LookupOrder.{is_tried, order_keys_from, IsOrder}
 use Rattle.nego_core.specs.Choosing.{IsOpen, IsLookedUp, MatchFirstOf, all_candidates}
-use Rattle.nego_core.specs.Unweighted.{AllUnweighted, AllPositive, is_other, IsFirstHeld}
+use Rattle.nego_core.specs.Unweighted.{AllUnweighted, is_other, IsFirstHeld}
+use Rattle.list_core.specs.Item.{AllPositive}
 
 positive : (items : List Item) → AllUnweighted items → AllPositive items
 positive items h =

@@ -8,7 +8,7 @@ use Rattle.std.specs.List.{flat_map, slice_get, cons_option, list_any, position_
 use Rattle.std.specs.Str.{bytes_eq}
 use Rattle.std.specs.Ordering.{is_lt}
 use Rattle.std.specs.declared.cmp.Ordering.{Ordering}
-use Rattle.std.specs.declared.cmp.Ordering.TheVariants.{Less, Equal, Greater}
+use Rattle.std.specs.declared.cmp.Ordering.TheVariants.{Less}
 use Rattle.std.proofs.lemmas.Bool.{cases_Bool, le-ltb, lt-ltb, ltb-false, ltb-true}
 use Rattle.std.proofs.lemmas.List.{drop_all}
 use Rattle.std.proofs.lemmas.List.Elements.{All-nil, All-cons, All-append, All-contains}
@@ -22,28 +22,29 @@ use Rattle.lang_core.specs.Grammar.{is_star}
 use Rattle.lang_core.specs.Matching.{Extended, greedy, is_basic_match}
 use Rattle.lang_core.proofs.BasicLaw.{basic_of_test, test_of_basic}
 use Rattle.lang_core.proofs.Embedding.{embeds_of_greedy, greedy_of_embeds}
-use Rattle.nego_core.proofs.Basics.{contains_cases, contains_first, contains_from_map, element_at}
-use Rattle.nego_core.proofs.Basics.{false_true, same_default}
+use Rattle.list_core.proofs.Basics.{contains_cases, contains_first, contains_from_map, element_at}
+use Rattle.list_core.proofs.Basics.{false_true, same_default}
 use Rattle.nego_core.proofs.FoundCandidates.{IsTriedOf, each_tried}
 use Rattle.nego_core.proofs.LangSetLemmas.{among_contains, contains_among}
 use Rattle.nego_core.proofs.LookupCandidatesLemmas.{first_append, first_front, first_here}
 use Rattle.nego_core.proofs.LookupCandidatesLemmas.{first_later, one_first, ordered_items}
-use Rattle.nego_core.proofs.LookupOrderLemmas.{one_order_of}
-use Rattle.nego_core.proofs.Prefixes.{joined-pieces}
+use Rattle.list_core.proofs.LookupOrderLemmas.{one_order_of}
+use Rattle.list_core.proofs.Prefixes.{joined-pieces}
 use Rattle.nego_core.proofs.Rising.{all_above, not_both, one_rising, rising_from, rising_has}
 use Rattle.nego_core.proofs.Rising.{rising_is, rising_of, rising_tail}
-use Rattle.nego_core.specs.Item.{Item}
-use Rattle.nego_core.specs.Deciding.{Matches, NamedRefuse}
+use Rattle.list_core.specs.Item.{Item}
+use Rattle.list_core.specs.Deciding.{Matches, NamedRefuse}
 use Rattle.nego_core.specs.LangSet.{is_among}
 use Rattle.nego_core.specs.Choosing.{candidates_of, all_candidates, IsOpen, IsLookedUp}
 use Rattle.nego_core.specs.Choosing.{MatchFirstOf}
-use Rattle.nego_core.specs.LookupOrder.{AreOrderKeys, IsOrder, is_tried}
+use Rattle.list_core.specs.LookupOrder.{AreOrderKeys, IsOrder, is_tried}
 use Rattle.nego_core.specs.LookupPlaces.{least_place}
 use Rattle.nego_core.specs.WidenedChoice.{IsFirstWidened, IsFirstWidenedAt}
-use Rattle.nego_core.specs.Widening.{AreMatched, Ascends, IsLookedUpWidened, MatchesLang, widened}
-use Rattle.nego_core.specs.declared.lookup_order.OrderKey.{OrderKey}
-use Rattle.nego_core.specs.declared.scheme.Scheme.{Scheme}
-use Rattle.nego_core.specs.declared.scheme.Scheme.TheVariants as scheme
+use Rattle.nego_core.specs.Widening.{AreMatched, Ascends, IsLookedUpWidened, widened}
+use Rattle.list_core.specs.Deciding.{MatchesLang}
+use Rattle.list_core.specs.declared.lookup_order.OrderKey.{OrderKey}
+use Rattle.list_core.specs.declared.scheme.Scheme.{Scheme}
+use Rattle.list_core.specs.declared.scheme.Scheme.TheVariants as scheme
 
 -- ---- each range matches some languages
 
@@ -252,12 +253,6 @@ by_match s items langs i x n least = λ matched h.
     low)
 
 -- ---- texts below others
-
--- An order that is less is that of a text below.
-pub lt_less : (o : Ordering) → is_lt o ≡ true → o ≡ Less
-lt_less Less h = refl
-lt_less Equal h = absurd (false_true h)
-lt_less Greater h = absurd (false_true h)
 
 -- And the other way round.
 pub less_lt : (o : Ordering) → o ≡ Less → is_lt o ≡ true

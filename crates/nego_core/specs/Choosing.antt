@@ -3,12 +3,12 @@ use Rattle.std.specs.List.{flat_map, slice_get}
 use Rattle.lang_core.specs.Text.{pieces, joined}
 use Rattle.lang_core.specs.Matching.{as_basic}
 use Rattle.lang_core.specs.Candidates.{candidates}
-use Rattle.nego_core.specs.Item.{Item}
-use Rattle.nego_core.specs.Deciding.{NamedRefuse}
-use Rattle.nego_core.specs.LookupOrder.{IsOrder}
+use Rattle.list_core.specs.Item.{Item}
+use Rattle.list_core.specs.Deciding.{NamedRefuse}
+use Rattle.list_core.specs.LookupOrder.{IsOrder}
 use Rattle.std.specs.Prelude.{IsSomeAnd}
-use Rattle.nego_core.specs.Deciding.{IsRefusedLang}
-use Rattle.nego_core.specs.declared.scheme.Scheme.TheVariants as scheme
+use Rattle.list_core.specs.Deciding.{IsRefusedLang}
+use Rattle.list_core.specs.declared.scheme.Scheme.TheVariants as scheme
 use Rattle.nego_core.specs.declared.choosing.Choice.{Choice}
 use Rattle.nego_core.specs.declared.choosing.Choice.TheVariants.{Matched, Default, Nothing}
 

@@ -6,9 +6,9 @@ use Rattle.std.specs.declared.cmp.Ordering.{Ordering}
 use Rattle.std.specs.Ordering.{nat_cmp, on, then_cmp, eq_of_both}
 use Rattle.std.specs.Cmp.Lexicographic.{slice_cmp}
 use Rattle.std.specs.Cmp.{IsEquivalence, nat_eq_equiv, and_equiv, on_equiv}
-use Rattle.nego_core.specs.Deciding.{DecidesLang}
-use Rattle.nego_core.specs.Item.{Item}
-use Rattle.nego_core.specs.declared.scheme.Scheme.{Scheme}
+use Rattle.list_core.specs.Deciding.{DecidesLang}
+use Rattle.list_core.specs.Item.{Item}
+use Rattle.list_core.specs.declared.scheme.Scheme.{Scheme}
 use Rattle.nego_core.specs.declared.filtering.FilterKey.{FilterKey}
 use Rattle.nego_core.specs.declared.filtering.Pick.{Pick}
 

@@ -1,15 +1,3 @@
-pub mod Basics
-pub mod Fault
-pub mod Fingerprint
-pub mod Item
-pub mod Weight
-pub mod Field
-pub mod Deciding
-pub mod Chains
-pub mod HashedRanges
-pub mod Index
-pub mod LookupOrder
-pub mod FirstTried
 pub mod LangSet
 pub mod Choosing
 pub mod LookupPlaces

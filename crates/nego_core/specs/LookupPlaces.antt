@@ -1,7 +1,7 @@
 use Rattle.std.specs.Prelude.{ℕ, ◌≡◌, List, Option, Some, None, position}
 use Rattle.std.specs.Str.{bytes_eq}
 use Rattle.lang_core.specs.Text.{pieces}
-use Rattle.nego_core.specs.Item.{Item}
+use Rattle.list_core.specs.Item.{Item}
 use Rattle.nego_core.specs.Choosing.{IsLookedUp}
 use Rattle.nego_core.specs.LangSet.{is_among}
 use Rattle.nego_core.specs.Choosing.{IsOpenDefault, HasOpenDefault}

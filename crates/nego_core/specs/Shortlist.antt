@@ -2,7 +2,7 @@
 use Rattle.std.specs.Prelude.{ℕ, ◌≡◌, ◌≤◌, List, [], Option, All, Contains}
 use Rattle.std.specs.Prelude.{IsSomeAnd, IsSorted, IsTrue, length, option_map}
 use Rattle.lang_core.specs.Text.{pieces}
-use Rattle.nego_core.specs.Item.{Item}
+use Rattle.list_core.specs.Item.{Item}
 use Rattle.nego_core.specs.LangSet.{is_among}
 use Rattle.nego_core.specs.Choosing.{IsLookedUp, MatchFirstOf}
 use Rattle.nego_core.specs.Choosing.{IsChosen}
@@ -11,7 +11,7 @@ use Rattle.nego_core.specs.Widening.{IsLookedUpWidened}
 use Rattle.std.specs.declared.cmp.Ordering.{Ordering}
 use Rattle.std.specs.Ordering.{nat_cmp, on, then_cmp}
 use Rattle.std.specs.Cmp.Lexicographic.{slice_cmp}
-use Rattle.nego_core.specs.declared.scheme.Scheme.{Scheme}
+use Rattle.list_core.specs.declared.scheme.Scheme.{Scheme}
 use Rattle.nego_core.specs.declared.shortlist.MatchedLang.{MatchedLang}
 use Rattle.nego_core.specs.declared.choosing.Choice.{Choice}
 use Rattle.nego_core.specs.declared.choosing.Choice.TheVariants.{Matched, Default, Nothing}

@@ -1,20 +1,16 @@
-use Rattle.std.specs.Prelude.{ℕ, ◌≡◌, ◌<◌, not, Bool, IsTrue, List, Option, All, Any, IsSomeAnd}
+use Rattle.std.specs.Prelude.{ℕ, ◌≡◌, not, Bool, IsTrue, List, Option, All, Any, IsSomeAnd}
 use Rattle.std.specs.Prelude.{filter}
 use Rattle.std.specs.List.{slice_get}
 use Rattle.lang_core.specs.Text.{pieces, joined}
 use Rattle.lang_core.specs.Lang.{tag_of}
 use Rattle.lang_core.specs.Matching.{as_basic, is_lone_star}
-use Rattle.nego_core.specs.Item.{Item}
-use Rattle.nego_core.specs.Deciding.{Matches}
+use Rattle.list_core.specs.Item.{Item}
+use Rattle.list_core.specs.Deciding.{Matches}
 use Rattle.nego_core.specs.Choosing.{MatchFirstOf, all_candidates}
-use Rattle.nego_core.specs.declared.scheme.Scheme.{Scheme}
+use Rattle.list_core.specs.declared.scheme.Scheme.{Scheme}
 
 -- What RFC 4647 says where no project rule applies: of lists without a weight 0, and without
 -- weights.
-
--- no weight is 0
-abbrev pub AllPositive : List Item → Type 0
-AllPositive items = All (λ i. 0 < i.weight) items
 
 -- no weight was written, so each is 1000
 abbrev pub AllUnweighted : List Item → Type 0

@@ -5,18 +5,19 @@ use Rattle.std.specs.List.{slice_get}
 use Rattle.std.specs.Cmp.Lexicographic.{slice_cmp}
 use Rattle.std.specs.Ordering.{nat_cmp, is_lt}
 use Rattle.lang_core.specs.Text.{pieces}
-use Rattle.nego_core.specs.Item.{Item}
-use Rattle.nego_core.specs.Deciding.{NamedRefuse}
+use Rattle.list_core.specs.Item.{Item}
+use Rattle.list_core.specs.Deciding.{NamedRefuse}
 use Rattle.nego_core.specs.Choosing.{IsOpen, MatchFirstOf}
 use Rattle.nego_core.specs.LangSet.{is_among}
 use Rattle.nego_core.specs.Choosing.{HasOpenDefault}
-use Rattle.nego_core.specs.Widening.{AreMatched, Ascends, IsLookedUpWidened, MatchesLang, widened}
-use Rattle.nego_core.specs.declared.scheme.Scheme.{Scheme}
+use Rattle.nego_core.specs.Widening.{AreMatched, Ascends, IsLookedUpWidened, widened}
+use Rattle.list_core.specs.Deciding.{MatchesLang}
+use Rattle.list_core.specs.declared.scheme.Scheme.{Scheme}
 use Rattle.nego_core.specs.declared.choosing.Choice.{Choice}
 use Rattle.nego_core.specs.declared.choosing.Choice.TheVariants.{Matched, Default, Nothing}
-use Rattle.nego_core.specs.FirstTried.{item_tried}
-use Rattle.nego_core.specs.LookupOrder.{AreOrderKeys}
-use Rattle.nego_core.specs.declared.lookup_order.OrderKey.{OrderKey}
+use Rattle.list_core.specs.FirstTried.{item_tried}
+use Rattle.list_core.specs.LookupOrder.{AreOrderKeys}
+use Rattle.list_core.specs.declared.lookup_order.OrderKey.{OrderKey}
 use Rattle.nego_core.specs.declared.widened_choice.Earliest.{Earliest}
 
 -- widened lookup, with the default where no widened candidate is found

@@ -1,29 +1,23 @@
 -- Widened lookup (project rule): a range finds the languages that it matches too.
 use Rattle.std.specs.Prelude.{ℕ, ◌≡◌, ◌↔◌, List, ◌++◌, Option, Some, None}
-use Rattle.std.specs.Prelude.{AllPairs, Contains, IsSomeAnd, map}
+use Rattle.std.specs.Prelude.{AllPairs, Contains, map}
 use Rattle.std.specs.List.{flat_map}
 use Rattle.std.specs.Cmp.Lexicographic.{slice_cmp}
 use Rattle.std.specs.Ordering.{nat_cmp}
 use Rattle.std.specs.declared.cmp.Ordering.TheVariants.{Less}
 use Rattle.lang_core.specs.Text.{pieces}
-use Rattle.lang_core.specs.Lang.{tag_of}
-use Rattle.nego_core.specs.Item.{Item}
-use Rattle.nego_core.specs.Deciding.{Matches}
-use Rattle.nego_core.specs.LookupOrder.{IsOrder}
+use Rattle.list_core.specs.Item.{Item}
+use Rattle.list_core.specs.Deciding.{MatchesLang}
+use Rattle.list_core.specs.LookupOrder.{IsOrder}
 use Rattle.nego_core.specs.Choosing.{candidates_of, IsOpen, MatchFirstOf}
 use Rattle.nego_core.specs.LangSet.{is_among}
 use Rattle.nego_core.specs.LookupPlaces.{least_place, IsFound}
 use Rattle.nego_core.specs.Choosing.{IsOpenDefault, HasOpenDefault}
-use Rattle.nego_core.specs.declared.scheme.Scheme.{Scheme}
+use Rattle.list_core.specs.declared.scheme.Scheme.{Scheme}
 use Rattle.nego_core.specs.declared.lookup_places.Found.{Found}
 use Rattle.nego_core.specs.declared.lookup_places.Found.TheVariants.{Matched, Default, Nothing}
 use Rattle.nego_core.specs.declared.widening.Widening.{Widening}
 use Rattle.nego_core.specs.declared.widening.Widening.TheVariants.{Off, By}
-
--- the range of the item matches the language: none matches "@none"
-abbrev pub MatchesLang : Scheme → Item → List ℕ → Type 0
-MatchesLang scheme i lang =
-    IsSomeAnd (tag_of lang) (λ tag. Matches scheme (pieces i.range) (pieces tag))
 
 -- one text is below another by their bytes
 abbrev pub Ascends : List ℕ → List ℕ → Type 0

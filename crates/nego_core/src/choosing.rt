@@ -1,19 +1,18 @@
 //! Lookup (RFC 4647 section 3.4) over any set of languages, with a default: the ranges in order,
 //! each through its truncations.
 ghost use Rattle.std.specs.Prelude.{◌↔◌, IsTrue, option_map};
-ghost use Rattle.nego_core.specs.Deciding.{IsRefusedLang};
+ghost use Rattle.list_core.specs.Deciding.{IsRefusedLang};
 ghost use Rattle.nego_core.specs.Choosing.{IsOpenDefault, HasOpenDefault, IsChosen};
-ghost use Rattle.nego_core.specs.declared.scheme.Scheme.TheVariants as scheme;
+ghost use Rattle.list_core.specs.declared.scheme.Scheme.TheVariants as scheme;
 ghost use Rattle.lang_core.specs.Text.{pieces};
 ghost use Rattle.lang_core.specs.Matching.{as_basic};
 ghost use Rattle.lang_core.specs.Candidates.{candidates};
-ghost use Rattle.nego_core.specs.Deciding.{NamedRefuse};
+ghost use Rattle.list_core.specs.Deciding.{NamedRefuse};
 ghost use Rattle.nego_core.specs.Choosing.{IsOpen, MatchFirstOf, IsLookedUp, candidates_at};
 
 use crate::lang_set::Holds;
-use crate::priority_list::PriorityList;
-use crate::scheme::Scheme;
 use lang_core::{Lang, Range};
+use list_core::{PriorityList, Scheme};
 
 /// What lookup answers over a set of languages.
 #[derive(Clone, Copy, Debug, PartialEq, Eq)]

@@ -8,14 +8,11 @@ ghost use Rattle.std.specs.Slice.Iter.{iter_rest};
 ghost use Rattle.nego_core.specs.Filtering.{pick_eq, pick_equiv, IsFiltered, IsKey, HasNoKey};
 ghost use Rattle.nego_core.specs.Filtering.{HasPick, AreKeys, key_of, pick_of, filter_key_cmp};
 ghost use Rattle.nego_core.specs.Filtering.{texts_of};
-ghost use Rattle.nego_core.specs.declared.fault.NegoFault.TheVariants.{NoMemory};
+ghost use Rattle.list_core.specs.declared.fault.NegoFault.TheVariants.{NoMemory};
 
 use crate::as_lang::AsLang;
-use crate::fault::NegoFault;
-use crate::ordered_text::OrderedText;
-use crate::priority_list::PriorityList;
-use crate::scheme::Scheme;
 use lang_core::Lang;
+use list_core::{NegoFault, OrderedText, PriorityList, Scheme};
 use std::alloc::{AllocError, Global};
 use std::marker::Model;
 use std::{fmt, slice};

@@ -1,10 +1,10 @@
 //! Sets of languages that lookup searches.
 ghost use Rattle.std.specs.Prelude.{◌≡◌, ◌<◌, ℕ, List, Bool};
-ghost use Rattle.nego_core.specs.Fingerprint.{slot_of};
+ghost use Rattle.list_core.specs.Fingerprint.{slot_of};
 ghost use Rattle.nego_core.specs.LangSet.{is_among};
 
-use crate::fingerprint::slot_of;
 use lang_core::Lang;
+use list_core::slot_of;
 use std::marker::Model;
 
 /// How many slots the table has.
@@ -42,7 +42,7 @@ pub(crate) struct LangSet<'a> {
 
 impl<'a> Model for LangSet<'a> {
     ghost use Rattle.std.specs.Prelude.{List, ℕ};
-    ghost use Rattle.nego_core.specs.Fingerprint.{slot_of, IsTableOf};
+    ghost use Rattle.list_core.specs.Fingerprint.{slot_of, IsTableOf};
 
     ghost Value = { List (List ℕ) };
 

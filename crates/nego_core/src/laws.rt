@@ -2,58 +2,28 @@
 ghost use Rattle.std.specs.Prelude.{◌≡◌, ◌≢◌, ◌≤◌, ◌==◌, ◌↔◌, ◌⊎◌, ◌∷◌, ℕ, List, Option, Some};
 ghost use Rattle.std.specs.Prelude.{None, Bool, IsTrue, All, AllPairs, Contains, IsPermutation};
 ghost use Rattle.std.specs.Prelude.{filter, map};
-ghost use Rattle.lang_core.specs.Text.{pieces, pieces_by, joined};
-ghost use Rattle.nego_core.specs.Item.{Item};
-ghost use Rattle.nego_core.specs.Field.{IsPadded};
-ghost use Rattle.nego_core.specs.declared.scheme.Scheme.{Scheme};
+ghost use Rattle.lang_core.specs.Text.{pieces, joined};
+ghost use Rattle.list_core.specs.Item.{Item};
+ghost use Rattle.list_core.specs.declared.scheme.Scheme.{Scheme};
 ghost use Rattle.nego_core.specs.Filtering.{IsFiltered, IsPicked};
-ghost use Rattle.nego_core.specs.LookupOrder.{is_tried, IsOrder};
+ghost use Rattle.list_core.specs.LookupOrder.{is_tried, IsOrder};
 ghost use Rattle.nego_core.specs.Choosing.{IsLookedUp, candidates_of};
 ghost use Rattle.nego_core.specs.LookupPlaces.{IsFound};
 ghost use Rattle.nego_core.specs.LangSet.{is_among};
-ghost use Rattle.nego_core.specs.Widening.{IsFoundWidened, IsLookedUpWidened, MatchesLang};
-ghost use Rattle.nego_core.specs.Deciding.{Matches, IsDeciding, IsDecidedBy, NamedRefuse};
-ghost use Rattle.nego_core.specs.Deciding.{IsRefusedLang, named_items};
-ghost use Rattle.nego_core.specs.Unweighted.{AllPositive, AllUnweighted, IsMatchedAt, IsFirstHeld};
-ghost use Rattle.nego_core.specs.declared.scheme.Scheme.TheVariants as scheme;
-ghost use Rattle.nego_core.specs.Field.{IsField, IsFirstMalformed, IsOfOneKind};
-ghost use Rattle.nego_core.specs.declared.field.Malformed.{Malformed};
-ghost use Rattle.nego_core.specs.declared.field.Malformed.TheVariants.{Refused, PassedOver};
+ghost use Rattle.nego_core.specs.Widening.{IsFoundWidened, IsLookedUpWidened};
+ghost use Rattle.list_core.specs.Deciding.{MatchesLang};
+ghost use Rattle.list_core.specs.Deciding.{NamedRefuse};
+ghost use Rattle.list_core.specs.Deciding.{IsRefusedLang};
+ghost use Rattle.nego_core.specs.Unweighted.{AllUnweighted, IsMatchedAt, IsFirstHeld};
+ghost use Rattle.list_core.specs.Item.{AllPositive};
 ghost use Rattle.nego_core.specs.declared.lookup_places.Found.{Found};
 ghost use Rattle.nego_core.specs.declared.filtering.Pick.{Pick};
 
-/// A field gives one list of items (RFC 9110 section 12.5.4), and one where malformed elements are
-/// skipped.
-pub fn one_item_list()
-    ensures { (scheme : Scheme) (malformed : Malformed) (bytes : List ℕ) (a b : List Item)
-        → IsField scheme malformed bytes a → IsField scheme malformed bytes b → a ≡ b }
-{}
-
-/// A field without a malformed element gives the same items where such are skipped.
-pub fn same_items_where_none_is_malformed()
-    ensures { (scheme : Scheme) (bytes : List ℕ) (items : List Item)
-        → IsField scheme Refused bytes items → IsField scheme PassedOver bytes items }
-{}
-
-/// The items of a field are those of its elements. So skipping malformed ones takes nothing else
-/// away.
-pub fn items_are_of_elements()
-    ensures { (scheme : Scheme) (malformed : Malformed) (bytes : List ℕ) (items : List Item)
-        → IsField scheme malformed bytes items → (item : Item) → Contains items item
-        ↔ ((piece : List ℕ) × Contains (pieces_by 44 bytes) piece × IsPadded scheme piece item) }
-{}
-
-/// A field gives a list without a weight 0 beside a range that is not basic.
-pub fn field_is_of_one_kind()
-    ensures { (scheme : Scheme) (malformed : Malformed) (bytes : List ℕ) (items : List Item)
-        → IsField scheme malformed bytes items → IsOfOneKind items }
-{}
-
-/// The items other than "*" refuse a tag exactly where the list without "*" does.
-pub fn named_refuse_alone()
-    ensures { (items : List Item) (tag : List (List ℕ)) → NamedRefuse items tag
-        ↔ ((place : ℕ) × IsDecidedBy scheme.Basic (named_items items) tag place 0) }
-{}
+pub use list_core::laws::{
+    a_match_has_a_deciding_item, field_is_of_one_kind, items_are_of_elements,
+    malformed_is_no_field, named_refuse_alone, one_deciding, one_item_list, one_malformed_offset,
+    one_order, same_items_where_none_is_malformed,
+};
 
 /// Where no weight is 0, no tag and no language is refused.
 pub fn nothing_refused()
@@ -180,11 +150,6 @@ pub fn unweighted_filtering()
         ↔ IsMatchedAt scheme items langs place }
 {}
 
-/// There is one order of a list's items.
-pub fn one_order()
-    ensures { (items a b : List Item) → IsOrder items a → IsOrder items b → a ≡ b }
-{}
-
 /// The order has each item that lookup tries, as often as the list has it.
 pub fn order_has_each_once()
     ensures { (items ordered : List Item)
@@ -198,29 +163,4 @@ pub fn order_falls()
     ensures written { (items ordered : List Item) → IsOrder items ordered → (weight : ℕ)
         → filter (λ i. i.weight == weight) ordered
         ≡ filter (λ i. i.weight == weight) (filter is_tried items) }
-{}
-
-/// A field with a malformed element gives no items where such are refused.
-pub fn malformed_is_no_field()
-    ensures { (scheme : Scheme) (bytes : List ℕ) (offset : ℕ) (items : List Item)
-        → IsFirstMalformed scheme bytes offset → ¬ IsField scheme Refused bytes items }
-{}
-
-/// The first malformed element of a field begins at one offset.
-pub fn one_malformed_offset()
-    ensures { (scheme : Scheme) (bytes : List ℕ) (a b : ℕ)
-        → IsFirstMalformed scheme bytes a → IsFirstMalformed scheme bytes b → a ≡ b }
-{}
-
-/// A tag has one deciding item.
-pub fn one_deciding()
-    ensures { (scheme : Scheme) (items : List Item) (tag : List (List ℕ)) (p q : ℕ)
-        → IsDeciding scheme items tag p → IsDeciding scheme items tag q → q ≡ p }
-{}
-
-/// Where the range of an item matches a tag, some item decides it.
-pub fn a_match_has_a_deciding_item()
-    ensures { (scheme : Scheme) (items : List Item) (tag : List (List ℕ)) (item : Item)
-        → Contains items item → Matches scheme (pieces item.range) tag
-        → (place : ℕ) × IsDeciding scheme items tag place }
 {}

@@ -28,40 +28,21 @@
 #![tactic(auto)]
 
 mod as_lang;
-mod chains;
 mod choosing;
-mod deciding;
-mod fault;
-mod field;
 mod filtering;
-mod fingerprint;
-mod first_tried;
-mod hashed_ranges;
-mod index;
-mod indexed_items;
-mod item;
 mod lang_set;
 pub mod laws;
-mod lookup_order;
 mod lookup_places;
-mod ordered_text;
-mod priority_list;
-mod scheme;
 mod shortlist;
 mod unranked;
-mod weight;
 mod widened_choice;
 mod widening;
 
 pub use choosing::{Choice, choose};
-pub use fault::NegoFault;
-pub use field::Malformed;
 pub use filtering::{Pick, Picks, filter, filter_lent};
-pub use item::Item;
 pub use lang_set::Holds;
+pub use list_core::{Item, Malformed, NegoFault, PriorityList, Scheme};
 pub use lookup_places::{Found, lookup};
-pub use priority_list::PriorityList;
-pub use scheme::Scheme;
 pub use shortlist::Shortlist;
 pub use widened_choice::{Earliest, Languages, WidenedRanges, choose_widened};
 pub use widening::{Widening, lookup_by, lookup_widened, lookup_widened_lent};

@@ -5,8 +5,8 @@ ghost use Rattle.nego_core.specs.LangSet.{is_among};
 
 use crate::choosing::{Choice, choose};
 use crate::lang_set::LangSet;
-use crate::priority_list::PriorityList;
 use lang_core::Lang;
+use list_core::PriorityList;
 
 /// What lookup answers over a slice of languages, by their places.
 #[derive(Clone, Copy, Debug, PartialEq, Eq)]

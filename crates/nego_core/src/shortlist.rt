@@ -7,12 +7,11 @@ ghost use Rattle.nego_core.specs.Shortlist.{AreAmong, AreMatchedBy, AreMatchedLa
 ghost use Rattle.nego_core.specs.Shortlist.{IsOneOf, IsRanking, IsShortlist, IsThere, matched_cmp};
 
 use crate::choosing::{Choice, has_open_default, is_open};
-use crate::ordered_text::OrderedText;
-use crate::priority_list::PriorityList;
 use crate::unranked::Unranked;
 use crate::widened_choice::{Languages, Searched, WidenedRanges};
 use crate::widening::Widening;
 use lang_core::Lang;
+use list_core::{OrderedText, PriorityList};
 use std::alloc::{AllocError, Global};
 use std::marker::Model;
 

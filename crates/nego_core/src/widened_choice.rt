@@ -8,9 +8,8 @@ ghost use Rattle.nego_core.specs.Widening.{IsLookedUpWidened};
 
 use crate::choosing::{Choice, first_at, has_open_default, named_refuse};
 use crate::lang_set::Holds;
-use crate::priority_list::PriorityList;
-use crate::scheme::Scheme;
 use lang_core::Lang;
+use list_core::{PriorityList, Scheme};
 
 /// Languages that widened lookup searches.
 ///

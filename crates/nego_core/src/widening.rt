@@ -11,10 +11,9 @@ use crate::as_lang::AsLang;
 use crate::choosing::Choice;
 use crate::lang_set::is_among;
 use crate::lookup_places::{Found, lookup};
-use crate::priority_list::PriorityList;
-use crate::scheme::Scheme;
 use crate::widened_choice::{Earliest, Languages, WidenedRanges, choose_widened};
 use lang_core::Lang;
+use list_core::{PriorityList, Scheme};
 
 /// Whether lookup also lets a range find the languages that it matches.
 #[derive(Clone, Copy, Debug, PartialEq, Eq)]

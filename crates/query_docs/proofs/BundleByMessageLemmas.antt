@@ -9,16 +9,17 @@ use Rattle.std.proofs.lemmas.List.Elements.{Contains-append_right}
 use Rattle.std.specs.Ordering.{is_eq, ordering_then}
 use Rattle.std.specs.declared.cmp.Ordering.TheVariants.{Less}
 use Rattle.cell_core.specs.Keyed.{IsMap}
-use Rattle.nego_core.specs.Item.{Item}
+use Rattle.list_core.specs.Item.{Item}
 use Rattle.nego_core.specs.declared.widening.Widening.{Widening}
-use Rattle.cata_core.specs.Asking.{IsLookedUpIn, IsLookupAnswerBy}
-use Rattle.cata_core.specs.Entries.{Entries, Entry, IsAboveAll, key_cmp, text_cmp}
-use Rattle.cata_core.specs.Live.{Labelled as Labels, live}
-use Rattle.cata_core.specs.declared.reply.Reply.{Reply}
-use Rattle.cata_core.specs.declared.reply.Reply.TheVariants.{Default, Matched}
-use Rattle.cata_core.proofs.Basics.{append_nil, tied}
-use Rattle.cata_core.proofs.BehindLemmas.{IsMap-behind}
-use Rattle.cata_core.proofs.NestedCataloguesLemmas.{text_exact}
+use Rattle.catalogue.specs.Asking.{IsLookedUpIn, IsLookupAnswerBy}
+use Rattle.cell_core.specs.Entry.{key_cmp, text_cmp}
+use Rattle.catalogue.specs.Entries.{Entries, Entry, IsAboveAll}
+use Rattle.catalogue.specs.Live.{Labelled as Labels, live}
+use Rattle.catalogue.specs.declared.reply.Reply.{Reply}
+use Rattle.catalogue.specs.declared.reply.Reply.TheVariants.{Default, Matched}
+use Rattle.catalogue.proofs.Basics.{append_nil}
+use Rattle.catalogue.proofs.BehindLemmas.{IsMap-behind}
+use Rattle.catalogue.proofs.NestedCataloguesLemmas.{text_exact}
 use Rattle.map_docs.specs.LangMaps.{Labelled}
 use Rattle.query_docs.specs.BundleByMessage.{HasBundled, default_of}
 use Rattle.query_docs.specs.Bundled.{IsAnswer, IsBundleBy}
@@ -29,6 +30,7 @@ use Rattle.query_docs.specs.Exported.{live_labels}
 use Rattle.query_docs.specs.LooksUp.{answered, answered_of}
 use Rattle.query_docs.specs.declared.bundle_by_message.Bundle.{Bundle}
 use Rattle.query_docs.specs.declared.draft.Draft.{Draft}
+use Rattle.cell_core.proofs.Basics.{tied_order as tied}
 use Rattle.query_docs.proofs.BundledLemmas.{answer_of, answered_here, bundle_live}
 use Rattle.query_docs.proofs.ByMessageLemmas.{live_before, live_own}
 use Rattle.query_docs.proofs.ChosenLemmas.{ids_live}

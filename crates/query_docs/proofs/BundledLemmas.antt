@@ -1,7 +1,7 @@
 -- What lookups answer, message by message.
 use Rattle.std.proofs.Common.{◌≡◌, ◌≢◌, ◌∙◌, ◌++◌, ℕ, zero, suc, true, false, cond, List, [], ◌∷◌}
 use Rattle.std.proofs.Common.{map, refl, sym, ap, subst, inl, inr, append_assoc, arith}
-use Rattle.std.specs.Prelude.{◌⊎◌, ⊤, Contains, None, Option, Some, T, filter, slice_get}
+use Rattle.std.specs.Prelude.{⊤, Contains, None, Option, Some, T, filter, slice_get}
 use Rattle.std.specs.List.{cons_option}
 use Rattle.std.proofs.lemmas.List.Elements.{Contains-append_cases, Contains-append_left}
 use Rattle.std.proofs.lemmas.List.Elements.{Contains-append_right}
@@ -11,40 +11,37 @@ use Rattle.std.specs.Ordering.{eq_by_cmp, is_eq, is_lt, ordering_then}
 use Rattle.std.specs.declared.cmp.Ordering.TheVariants.{Less}
 use Rattle.std.specs.FinMap.Entries.{below_all, find, is_sorted}
 use Rattle.cell_core.specs.Keyed.{IsMap}
-use Rattle.nego_core.specs.Item.{Item}
+use Rattle.list_core.specs.Item.{Item}
 use Rattle.nego_core.specs.Shortlist.{AreAmong, IsShortlist, Shortlist}
 use Rattle.nego_core.specs.declared.widening.Widening.{Widening}
-use Rattle.cata_core.specs.Asking.{IsLookedUpIn, IsLookupAnswerBy}
-use Rattle.cata_core.specs.Entries.{Entries, Entry, key_cmp, text_cmp}
-use Rattle.cata_core.specs.Languages.{AreLanguages, LanguageMap, texts_in}
-use Rattle.cata_core.specs.Live.{languages, live, live_of}
-use Rattle.cata_core.specs.LiveMessages.{AreMessages, LiveMessage, if_any}
-use Rattle.cata_core.specs.declared.reply.Reply.{Reply}
-use Rattle.cata_core.specs.declared.reply.Reply.TheVariants.{Default, Matched, Nothing}
-use Rattle.cata_core.proofs.Basics.{append_nil, both_parts, first_part, less_than, second_part}
-use Rattle.cata_core.proofs.Basics.{some_same, tied}
-use Rattle.cata_core.proofs.LanguageLemmas.{live_among}
-use Rattle.cata_core.proofs.NestedCataloguesLemmas.{text_exact}
-use Rattle.cata_core.proofs.SearchLemmas.{find_get}
-use Rattle.cata_core.proofs.UniqueAnswersLemmas.{one_lookup_answer_by}
+use Rattle.catalogue.specs.Asking.{IsLookedUpIn, IsLookupAnswerBy}
+use Rattle.cell_core.specs.Entry.{key_cmp, text_cmp}
+use Rattle.catalogue.specs.Entries.{Entries, Entry}
+use Rattle.catalogue.specs.Languages.{AreLanguages, LanguageMap, texts_in}
+use Rattle.catalogue.specs.Live.{languages, live, live_of}
+use Rattle.catalogue.specs.LiveMessages.{AreMessages, LiveMessage, if_any}
+use Rattle.catalogue.specs.declared.reply.Reply.{Reply}
+use Rattle.catalogue.specs.declared.reply.Reply.TheVariants.{Default, Matched, Nothing}
+use Rattle.catalogue.proofs.Basics.{append_nil}
+use Rattle.catalogue.proofs.Basics.{some_same}
+use Rattle.catalogue.proofs.LanguageLemmas.{live_among}
+use Rattle.catalogue.proofs.NestedCataloguesLemmas.{text_exact}
+use Rattle.catalogue.proofs.SearchLemmas.{find_get}
+use Rattle.catalogue.proofs.AskingLemmas.{one_lookup_answer_by}
 use Rattle.map_docs.specs.LangMaps.{Labelled}
 use Rattle.query_docs.specs.Bundled.{IsAnswer, IsBundleBy}
 use Rattle.query_docs.specs.Draft.{HasWritten}
 use Rattle.query_docs.specs.Exported.{live_labels}
 use Rattle.query_docs.specs.LooksUp.{LooksUp, answered, answered_of}
 use Rattle.query_docs.specs.declared.draft.Draft.{Draft}
+use Rattle.list_core.proofs.Basics.{contains_later as member_later, contains_cases as member_cases}
+use Rattle.cell_core.proofs.Basics.{both_parts, first_part, less_than, second_part}
+use Rattle.cell_core.proofs.Basics.{tied_order as tied}
 
 -- ---- members of lists
 
 member_first : {A : Type 0} (x y : A) (xs : List A) → x ≡ y → Contains (x ∷ xs) y
 member_first x y xs same = (zero, omega arith, same)
-
-member_later : {A : Type 0} (x y : A) (xs : List A) → Contains xs y → Contains (x ∷ xs) y
-member_later x y xs (k, within, is) = (suc k, omega (arith, within), is)
-
-member_cases : {A : Type 0} (x y : A) (xs : List A) → Contains (x ∷ xs) y → (x ≡ y) ⊎ Contains xs y
-member_cases x y xs (zero, within, is) = inl is
-member_cases x y xs (suc k, within, is) = inr (k, omega (arith, within), is)
 
 member_none : {A : Type 0} (y : A) → Contains [] y → ⊥
 member_none y (k, within, is) = omega (arith, within)

@@ -5,7 +5,7 @@ use Rattle.std.proofs.Common.{◌+◌, ◌<◌, add-one, drop, get_or, length, r
 use Rattle.std.proofs.Common.{true, true≢false}
 use Rattle.std.proofs.Math.Seq.{drop-cons, take-suc}
 use Rattle.std.proofs.lemmas.List.{map-append}
-use Rattle.std.specs.Prelude.{All, Bool, None, Option, Some, filter}
+use Rattle.std.specs.Prelude.{All, Bool, None, Some, filter}
 use Rattle.std.specs.Option.{option_or}
 use Rattle.std.proofs.lemmas.List.Elements.{All-append, All-cons, All-head, All-nil, All-push}
 use Rattle.std.proofs.lemmas.List.Elements.{All-tail, All-weaker, filter-append}
@@ -14,22 +14,20 @@ use Rattle.std.specs.FinMap.Entries.{find}
 use Rattle.std.specs.Ordering.{is_eq, ordering_reverse, ordering_then}
 use Rattle.std.specs.declared.cmp.Ordering.{Ordering}
 use Rattle.std.specs.declared.cmp.Ordering.TheVariants.{Equal, Greater, Less}
-use Rattle.cata_core.specs.Entries.{Entries, Entry, EntryKey, IsAboveAll, key_cmp, text_cmp}
-use Rattle.cata_core.specs.Live.{live, live_of}
-use Rattle.cata_core.proofs.Basics.{apart_first, append_nil, tied}
-use Rattle.cata_core.proofs.FlatLemmas.{find-append_lists}
-use Rattle.cata_core.proofs.NestedCataloguesLemmas.{text_exact}
+use Rattle.cell_core.specs.Entry.{EntryKey, key_cmp, text_cmp}
+use Rattle.catalogue.specs.Entries.{Entries, Entry, IsAboveAll}
+use Rattle.catalogue.specs.Live.{live, live_of}
+use Rattle.catalogue.proofs.Basics.{apart_first, append_nil}
+use Rattle.catalogue.proofs.FlatLemmas.{find-append_lists, or_none}
+use Rattle.catalogue.proofs.NestedCataloguesLemmas.{text_exact}
 use Rattle.site_docs.specs.Sink.{IsLabelRef}
 use Rattle.query_docs.specs.ByMessage.{AreLabelRefs, HasGiven, HasSeen, IsNextMessage, cell_of}
 use Rattle.query_docs.specs.ByMessage.{cells_by, cells_of, entries_in}
 use Rattle.query_docs.specs.ByMessage.{is_of}
 use Rattle.query_docs.specs.declared.by_message.ByMessage.{ByMessage}
 use Rattle.query_docs.specs.declared.by_message.MessageCell.{MessageCell}
-
--- What is so of all of two lists in sequence is so of all of the second.
-pub all_of_second : {X : Type 0} (P : X → Type 0) (xs ys : List X) → All P (xs ++ ys) → All P ys
-all_of_second P [] ys all = all
-all_of_second P (x ∷ xs) ys all = all_of_second P xs ys (All-tail P x (xs ++ ys) all)
+use Rattle.nego_core.proofs.WideningLemmas.{none_back as all_of_second}
+use Rattle.cell_core.proofs.Basics.{tied_order as tied}
 
 -- ---- one cell more
 
@@ -218,10 +216,6 @@ none_found key (e ∷ es) none =
     (apart_first (text_cmp key.0 e.0.0) (text_cmp key.1 e.0.1)
     (All-head (λ (x : Entry). is_eq (text_cmp key.0 x.0.0) ≡ false) e es none))
     ∙ none_found key es (All-tail (λ (x : Entry). is_eq (text_cmp key.0 x.0.0) ≡ false) e es none)
-
-or_none : {X : Type 0} (o : Option X) → option_or o None ≡ o
-or_none None = refl
-or_none (Some x) = refl
 
 -- Where no cell has the id, none is of its message.
 none_kept : (id : List ℕ) (es : Entries) → NoneOf id es

@@ -4,12 +4,13 @@ use Rattle.std.proofs.Common.{false}
 use Rattle.std.proofs.Common.{eqb-true, length, refl, subst, sym, true, true≢false}
 use Rattle.std.specs.Prelude.{◌==◌, ◌↔◌, codes, decimal, flat_map, not}
 use Rattle.std.specs.FinMap.Entries.{find}
-use Rattle.cell_core.specs.Keyed.{same_maps}
-use Rattle.cata_core.specs.Changes.{AreChanges, Changed, Sides}
-use Rattle.cata_core.specs.Entries.{Entries, EntryKey, key_cmp, key_cmp_exact, key_cmp_total}
+use Rattle.cell_core.specs.KeyedLaws.{same_maps}
+use Rattle.catalogue.specs.Changes.{AreChanges, Changed, Sides}
+use Rattle.cell_core.specs.Entry.{EntryKey, key_cmp, key_cmp_exact, key_cmp_total}
+use Rattle.catalogue.specs.Entries.{Entries}
 use Rattle.cata_core.specs.Site.{SiteState}
-use Rattle.cata_core.proofs.Basics.{append_nil}
-use Rattle.cata_core.proofs.ChangesLemmas.{alike_at, one_changes}
+use Rattle.catalogue.proofs.Basics.{append_nil}
+use Rattle.catalogue.proofs.ChangesLemmas.{alike_at, one_changes}
 use Rattle.site_docs.specs.ReadsAs.{ReadsAsSite}
 use Rattle.query_docs.specs.Changed.{IsChanged, change_line, changes_lines, has_change}
 use Rattle.query_docs.specs.Lines.{line}

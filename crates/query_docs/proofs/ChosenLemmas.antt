@@ -8,11 +8,12 @@ use Rattle.std.specs.List.{cons_option}
 use Rattle.std.specs.FinMap.Entries.{find}
 use Rattle.std.specs.Option.{is_none}
 use Rattle.std.specs.Cmp.Lexicographic.{nat_list_cmp_total}
-use Rattle.std.specs.Ordering.{is_eq, ordering_reverse, ordering_then}
+use Rattle.std.specs.Ordering.{is_eq, ordering_reverse}
 use Rattle.std.specs.declared.cmp.Ordering.{Ordering}
 use Rattle.std.specs.declared.cmp.Ordering.TheVariants.{Equal, Greater, Less}
 use Rattle.cell_core.specs.declared.cell.Cell.{Cell}
-use Rattle.cata_core.specs.Entries.{Entries, Entry, key_cmp, text_cmp}
+use Rattle.cell_core.specs.Entry.{key_cmp, text_cmp}
+use Rattle.catalogue.specs.Entries.{Entries, Entry}
 use Rattle.map_docs.specs.LangMaps.{Labelled}
 use Rattle.query_docs.specs.ByMessage.{IsNextMessage, cell_of, cells_of}
 use Rattle.query_docs.specs.Chosen.{HasChosen, chosen_labels, is_chosen}
@@ -23,6 +24,7 @@ use Rattle.query_docs.specs.declared.by_message.MessageCell.{MessageCell}
 use Rattle.query_docs.specs.declared.chosen.ChosenLabels.{ChosenLabels}
 use Rattle.query_docs.specs.declared.messages.Messages.{Messages}
 use Rattle.query_docs.specs.declared.messages.Messages.TheVariants as messages
+use Rattle.map_docs.proofs.LangMapLabelsLemmas.{same_id as same_keys}
 use Rattle.query_docs.proofs.ByMessageLemmas.{found_before, found_own}
 
 -- ---- lists of labels
@@ -146,9 +148,6 @@ own_order Greater e = absurd (cc)
 -- A text is tied with itself.
 pub same_text : (id : List ℕ) → text_cmp id id ≡ Equal
 same_text id = own_order (text_cmp id id) (nat_list_cmp_total.antisymm id id)
-
-same_keys : (id lang other : List ℕ) → key_cmp (id, lang) (id, other) ≡ text_cmp lang other
-same_keys id lang other = ap (λ o. ordering_then o (text_cmp lang other)) (same_text id)
 
 -- The time of the first cell of this language is that of the key.
 pub time_here : (id lang : List ℕ) (c : MessageCell) (cs : List MessageCell)

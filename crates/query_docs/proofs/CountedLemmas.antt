@@ -5,9 +5,9 @@ use Rattle.std.proofs.lemmas.List.Sums.{sum_by-append}
 use Rattle.std.specs.Prelude.{Some}
 use Rattle.cell_core.specs.Cell.{joined_stamps}
 use Rattle.cell_core.specs.Keyed.{joined_if_both}
-use Rattle.cata_core.specs.Entries.{Entries, Entry}
-use Rattle.cata_core.specs.Latest.{latest_of}
-use Rattle.cata_core.proofs.LatestLemmas.{latest_assoc}
+use Rattle.catalogue.specs.Entries.{Entries, Entry}
+use Rattle.catalogue.specs.Latest.{latest_of}
+use Rattle.catalogue.proofs.LatestLemmas.{latest_assoc}
 use Rattle.query_docs.specs.Counted.{AreCounts}
 use Rattle.query_docs.specs.Status.{is_labelled}
 use Rattle.query_docs.specs.declared.status.Counts.{Counts}
@@ -22,7 +22,8 @@ labels_more cells e =
     sum_by-append (λ (x : Entry). cond (is_labelled x) 1 0) cells (e ∷ [])
     ∙ ap (λ n. count_by is_labelled cells + n) (zero-add (cond (is_labelled e) 1 0))
 
-latest_more : (cells : Entries) (e : Entry)
+-- The latest stamp with one more entry is the later of the two.
+pub latest_more : (cells : Entries) (e : Entry)
     → latest_of (cells ++ e ∷ [])
     ≡ joined_if_both joined_stamps (latest_of cells) (Some e.1.stamp)
 latest_more [] e = refl

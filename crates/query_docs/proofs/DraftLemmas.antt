@@ -3,8 +3,8 @@ use Rattle.std.proofs.Common.{◌≡◌, ◌++◌, [], ◌∷◌, ℕ, List, app
 use Rattle.std.specs.Prelude.{IfSome, Option, Some, option_map}
 use Rattle.std.proofs.lemmas.List.Elements.{filter_map-append}
 use Rattle.cell_core.specs.MessageId.{IsMessageId}
-use Rattle.cata_core.specs.Entries.{Entries, Entry}
-use Rattle.cata_core.proofs.Basics.{append_nil}
+use Rattle.catalogue.specs.Entries.{Entries, Entry}
+use Rattle.catalogue.proofs.Basics.{append_nil}
 use Rattle.row_docs.specs.Texts.{Adds}
 use Rattle.map_docs.specs.LangMapLaws.{IsWritable}
 use Rattle.map_docs.specs.LangMaps.{Labelled}

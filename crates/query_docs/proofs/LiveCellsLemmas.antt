@@ -9,17 +9,19 @@ use Rattle.std.specs.List.{cons_option}
 use Rattle.std.specs.FinMap.Entries.{find}
 use Rattle.std.specs.Ordering.{is_eq}
 use Rattle.cell_core.specs.Found.{with_key}
-use Rattle.cata_core.specs.Entries.{Entry, text_cmp}
-use Rattle.cata_core.specs.Live.{Labelled, is_live, languages, live, live_of}
-use Rattle.cata_core.specs.declared.reply.Reply.{Reply}
-use Rattle.cata_core.proofs.Basics.{tied}
-use Rattle.cata_core.proofs.NestedCataloguesLemmas.{text_exact}
+use Rattle.cell_core.specs.Entry.{text_cmp}
+use Rattle.catalogue.specs.Entries.{Entry}
+use Rattle.catalogue.specs.Live.{Labelled, is_live, languages, live, live_of}
+use Rattle.catalogue.specs.declared.reply.Reply.{Reply}
+use Rattle.catalogue.proofs.NestedCataloguesLemmas.{text_exact}
 use Rattle.site_docs.specs.Sink.{texts_of}
 use Rattle.query_docs.specs.ByMessage.{cell_of, cells_of}
 use Rattle.query_docs.specs.Draft.{labelled_by}
 use Rattle.query_docs.specs.LiveCells.{label_of, labels_of}
 use Rattle.query_docs.specs.LooksUp.{answered, answered_of}
 use Rattle.query_docs.specs.declared.by_message.MessageCell.{MessageCell}
+use Rattle.json_docs.proofs.ReadableLemmas.{both_true as both}
+use Rattle.cell_core.proofs.Basics.{tied_order as tied}
 use Rattle.query_docs.proofs.ChosenLemmas.{same_text}
 
 -- They are those of the message in its cells.
@@ -53,10 +55,6 @@ labels_with c cs some = elim (texts_of c.label) as (λ o. is_some o ≡ true
       | None ↦ λ is. absurd (true≢false (sym is))
       | Some label ↦ λ is. (label, refl, refl)
     ] some
-
-both : (a b : Bool) → (a && b) ≡ true → (a ≡ true) × (b ≡ true)
-both true b is = (refl, is)
-both false b is = absurd (true≢false (sym is))
 
 -- The label of the first cell of the language that has one is that of the language.
 pub found_here : (text : List ℕ) (c : MessageCell) (cs : List MessageCell)

@@ -6,13 +6,14 @@ use Rattle.std.specs.Ordering.{eq_by_cmp, is_lt}
 use Rattle.std.specs.FinMap.Entries.{below_all, find, is_sorted}
 use Rattle.cell_core.specs.Keyed.{IsMap}
 use Rattle.cell_core.specs.declared.cell.Cell.{Cell}
-use Rattle.cata_core.specs.Entries.{Entries, EntryKey, key_cmp, key_cmp_total}
-use Rattle.cata_core.proofs.Basics.{both_parts, first_part, second_part, tied}
-use Rattle.cata_core.proofs.FilteredLemmas.{below_tied_all, filter-IsMap, find-below}
+use Rattle.cell_core.specs.Entry.{EntryKey, key_cmp, key_cmp_total}
+use Rattle.catalogue.specs.Entries.{Entries}
+use Rattle.catalogue.proofs.FilteredLemmas.{below_tied_all, filter-IsMap, find-below}
 use Rattle.map_docs.specs.LangMaps.{Labelled}
 use Rattle.query_docs.specs.Chosen.{chosen_labels, is_chosen}
 use Rattle.query_docs.specs.Exported.{label_at, live_labels}
 use Rattle.query_docs.specs.declared.messages.Messages.{Messages}
+use Rattle.cell_core.proofs.Basics.{both_parts, first_part, second_part, tied_order as tied}
 
 -- the labels of the other entries, and before them what this entry adds
 abbrev labelled : EntryKey → Option (List (List ℕ)) → List Labelled → List Labelled

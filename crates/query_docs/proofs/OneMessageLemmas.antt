@@ -5,10 +5,11 @@ use Rattle.std.specs.Prelude.{filter}
 use Rattle.std.proofs.lemmas.List.Elements.{All-filter, filter-append}
 use Rattle.std.specs.Ordering.{is_eq}
 use Rattle.std.specs.declared.cmp.Ordering.TheVariants.{Less}
-use Rattle.cata_core.specs.Asking.{IsFilteredOf, IsLookedUpIn}
+use Rattle.catalogue.specs.Asking.{IsFilteredOf, IsLookedUpIn}
 use Rattle.nego_core.specs.declared.widening.Widening.TheVariants.{Off}
-use Rattle.cata_core.specs.Entries.{Entries, Entry, EntryKey, IsAboveAll, key_cmp, text_cmp}
-use Rattle.cata_core.specs.Live.{Labelled, live, live_of}
+use Rattle.cell_core.specs.Entry.{EntryKey, key_cmp, text_cmp}
+use Rattle.catalogue.specs.Entries.{Entries, Entry, IsAboveAll}
+use Rattle.catalogue.specs.Live.{Labelled, live, live_of}
 use Rattle.query_docs.specs.Asks.{Answers}
 use Rattle.query_docs.specs.OneMessage.{KeepsMessage, is_of}
 use Rattle.query_docs.specs.declared.asking.Ask.{Ask}

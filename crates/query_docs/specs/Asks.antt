@@ -1,10 +1,10 @@
 -- Questions to a document of a site. Project rule.
 use Rattle.std.specs.Prelude.{◌≡◌, ◌==◌, List, ℕ, Bool, true, false, not, length}
-use Rattle.cata_core.specs.Asking.{IsFilterAnswer, IsLookupAnswer, Weighed}
-use Rattle.cata_core.specs.Entries.{Entries}
+use Rattle.catalogue.specs.Asking.{IsFilterAnswer, IsLookupAnswer, Weighed}
+use Rattle.catalogue.specs.Entries.{Entries}
 use Rattle.cata_core.specs.Site.{SiteState}
-use Rattle.cata_core.specs.declared.reply.Reply.{Reply}
-use Rattle.cata_core.specs.declared.reply.Reply.TheVariants.{Matched, Default, Nothing}
+use Rattle.catalogue.specs.declared.reply.Reply.{Reply}
+use Rattle.catalogue.specs.declared.reply.Reply.TheVariants.{Matched, Default, Nothing}
 use Rattle.site_docs.specs.ReadsAs.{ReadsAsSite}
 use Rattle.query_docs.specs.Lines.{filter_lines, reply_line}
 use Rattle.query_docs.specs.declared.asking.Ask.{Ask}

@@ -1,6 +1,6 @@
 -- The labels of one reader, looked up message by message.
 use Rattle.std.specs.Prelude.{◌≡◌, ℕ, List, Option, option_map}
-use Rattle.cata_core.specs.Entries.{Entries}
+use Rattle.catalogue.specs.Entries.{Entries}
 use Rattle.map_docs.specs.LangMaps.{Labelled}
 use Rattle.query_docs.specs.Bundled.{IsBundleBy}
 use Rattle.query_docs.specs.Draft.{HasWritten}

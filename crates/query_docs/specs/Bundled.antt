@@ -2,13 +2,14 @@
 -- Project rule.
 use Rattle.std.specs.Prelude.{◌⊎◌, ◌↔◌, ℕ, Bool, List, Contains, Option}
 use Rattle.cell_core.specs.Keyed.{IsMap}
-use Rattle.nego_core.specs.Item.{Item}
+use Rattle.list_core.specs.Item.{Item}
 use Rattle.nego_core.specs.declared.widening.Widening.{Widening}
 use Rattle.nego_core.specs.declared.widening.Widening.TheVariants.{Off}
-use Rattle.cata_core.specs.Asking.{IsLookupAnswerBy}
-use Rattle.cata_core.specs.Entries.{Entries, key_cmp}
+use Rattle.catalogue.specs.Asking.{IsLookupAnswerBy}
+use Rattle.cell_core.specs.Entry.{key_cmp}
+use Rattle.catalogue.specs.Entries.{Entries}
 use Rattle.cata_core.specs.Site.{SiteState}
-use Rattle.cata_core.specs.declared.reply.Reply.TheVariants.{Default, Matched}
+use Rattle.catalogue.specs.declared.reply.Reply.TheVariants.{Default, Matched}
 use Rattle.site_docs.specs.ReadsAs.{ReadsAsSite}
 use Rattle.map_docs.specs.LangMapTexts.{AreWritten}
 use Rattle.map_docs.specs.LangMaps.{Labelled}

@@ -3,7 +3,8 @@ use Rattle.std.specs.Prelude.{◌≡◌, ◌++◌, [], ℕ, All, Bool, List, Non
 use Rattle.std.specs.Prelude.{map}
 use Rattle.std.specs.Ordering.{is_eq}
 use Rattle.std.specs.declared.cmp.Ordering.TheVariants.{Less}
-use Rattle.cata_core.specs.Entries.{Entries, Entry, text_cmp}
+use Rattle.cell_core.specs.Entry.{text_cmp}
+use Rattle.catalogue.specs.Entries.{Entries, Entry}
 use Rattle.site_docs.specs.Sink.{IsLabelRef, texts_of}
 use Rattle.query_docs.specs.declared.by_message.ByMessage.{ByMessage}
 use Rattle.query_docs.specs.declared.by_message.MessageCell.{MessageCell}

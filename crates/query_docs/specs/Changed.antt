@@ -4,8 +4,8 @@ use Rattle.std.specs.Prelude.{true}
 use Rattle.serde_json.specs.Data.{Data, array, item, no_items, null, number, string, unsigned}
 use Rattle.serde_json.specs.Written.{compact_text}
 use Rattle.cell_core.specs.declared.cell.Cell.{Cell}
-use Rattle.cata_core.specs.Changes.{AreChanges, Changed, Sides}
-use Rattle.cata_core.specs.Entries.{EntryKey}
+use Rattle.catalogue.specs.Changes.{AreChanges, Changed, Sides}
+use Rattle.cell_core.specs.Entry.{EntryKey}
 use Rattle.cata_core.specs.Site.{SiteState}
 use Rattle.json_docs.specs.declared.fault.DocFault.{DocFault}
 use Rattle.row_docs.specs.Reading.{IsOfDocument}

@@ -1,7 +1,7 @@
 -- The counts of cells that are seen one after another.
 use Rattle.std.specs.Prelude.{◌≡◌, count_by, length}
-use Rattle.cata_core.specs.Entries.{Entries}
-use Rattle.cata_core.specs.Latest.{latest_of}
+use Rattle.catalogue.specs.Entries.{Entries}
+use Rattle.catalogue.specs.Latest.{latest_of}
 use Rattle.query_docs.specs.Status.{is_labelled}
 use Rattle.query_docs.specs.declared.status.Counts.{Counts}
 

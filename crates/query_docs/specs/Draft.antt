@@ -2,7 +2,7 @@
 use Rattle.std.specs.Prelude.{◌++◌, [], ℕ, IfSome, List, Option, option_map}
 use Rattle.std.specs.List.{cons_option}
 use Rattle.cell_core.specs.MessageId.{IsMessageId}
-use Rattle.cata_core.specs.Entries.{EntryKey}
+use Rattle.cell_core.specs.Entry.{EntryKey}
 use Rattle.map_docs.specs.LangMaps.{Labelled}
 use Rattle.map_docs.specs.LangMapsWritten.{IsWriting}
 use Rattle.query_docs.specs.declared.draft.Draft.{Draft}

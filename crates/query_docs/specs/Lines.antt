@@ -2,12 +2,12 @@
 -- JSON array.
 use Rattle.std.specs.Prelude.{ℕ, List, ◌∷◌, [], ◌++◌, codes, decimal, length, flat_map}
 use Rattle.serde_json.specs.Written.{compact_text}
-use Rattle.cata_core.specs.Asking.{Weighed}
-use Rattle.cata_core.specs.Entries.{Entry, Entries}
+use Rattle.catalogue.specs.Asking.{Weighed}
+use Rattle.catalogue.specs.Entries.{Entry, Entries}
 use Rattle.cata_core.specs.declared.answer.Answer.{Answer}
 use Rattle.cata_core.specs.declared.answer.Answer.TheVariants.{Filter, Lookup, Cells}
-use Rattle.cata_core.specs.declared.reply.Reply.{Reply}
-use Rattle.cata_core.specs.declared.reply.Reply.TheVariants.{Matched, Default, Nothing}
+use Rattle.catalogue.specs.declared.reply.Reply.{Reply}
+use Rattle.catalogue.specs.declared.reply.Reply.TheVariants.{Matched, Default, Nothing}
 use Rattle.row_docs.specs.Entries.{row_of}
 use Rattle.row_docs.specs.Values.{cell_value, texts_value}
 

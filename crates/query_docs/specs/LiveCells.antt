@@ -2,7 +2,7 @@
 use Rattle.std.specs.Prelude.{ℕ, List, None, Option, Some, option_map}
 use Rattle.std.specs.Borrow.{Bor}
 use Rattle.std.specs.List.{filter_map}
-use Rattle.cata_core.specs.Live.{Labelled}
+use Rattle.catalogue.specs.Live.{Labelled}
 use Rattle.site_docs.specs.Sink.{texts_of}
 use Rattle.query_docs.specs.declared.by_message.MessageCell.{MessageCell}
 

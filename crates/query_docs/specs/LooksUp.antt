@@ -1,12 +1,12 @@
 -- The labels that a lookup answers for one message after another.
 use Rattle.std.specs.Prelude.{◌≡◌, ◌++◌, ℕ, List, [], ◌∷◌, None, Option, Some, option_map}
 use Rattle.std.specs.Prelude.{option_to_list}
-use Rattle.nego_core.specs.Item.{Item}
+use Rattle.list_core.specs.Item.{Item}
 use Rattle.nego_core.specs.declared.widening.Widening.{Widening}
-use Rattle.cata_core.specs.Asking.{IsLookedUpIn}
-use Rattle.cata_core.specs.LiveMessages.{LiveMessage}
-use Rattle.cata_core.specs.declared.reply.Reply.{Reply}
-use Rattle.cata_core.specs.declared.reply.Reply.TheVariants.{Default, Matched, Nothing}
+use Rattle.catalogue.specs.Asking.{IsLookedUpIn}
+use Rattle.catalogue.specs.LiveMessages.{LiveMessage}
+use Rattle.catalogue.specs.declared.reply.Reply.{Reply}
+use Rattle.catalogue.specs.declared.reply.Reply.TheVariants.{Default, Matched, Nothing}
 use Rattle.map_docs.specs.LangMaps.{Labelled}
 
 -- the language that was answered, with its label

@@ -1,7 +1,7 @@
 -- Work for a translator: the messages that lack a language. Project rule.
 use Rattle.std.specs.Prelude.{ℕ, Bool, List, filter}
 use Rattle.std.specs.Option.{is_none}
-use Rattle.cata_core.specs.Entries.{Entries}
+use Rattle.catalogue.specs.Entries.{Entries}
 use Rattle.cata_core.specs.Site.{SiteState}
 use Rattle.site_docs.specs.ReadsAs.{ReadsAsSite}
 use Rattle.map_docs.specs.LangMapTexts.{AreWritten}

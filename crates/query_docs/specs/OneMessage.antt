@@ -1,9 +1,10 @@
 -- A site that is read for one message.
 use Rattle.std.specs.Prelude.{◌≡◌, ℕ, Bool, List}
 use Rattle.std.specs.Ordering.{is_eq}
-use Rattle.cata_core.specs.Entries.{Entries, text_cmp}
-use Rattle.cata_core.specs.Live.{live}
-use Rattle.cata_core.specs.Parts.{part_of}
+use Rattle.cell_core.specs.Entry.{text_cmp}
+use Rattle.catalogue.specs.Entries.{Entries}
+use Rattle.catalogue.specs.Live.{live}
+use Rattle.catalogue.specs.Parts.{part_of}
 use Rattle.cata_core.specs.Site.{SiteState}
 use Rattle.site_docs.specs.ReadsAs.{ReadsAsSite}
 use Rattle.query_docs.specs.declared.one_message.OneMessage.{OneMessage}

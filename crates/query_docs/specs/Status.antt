@@ -2,8 +2,8 @@
 use Rattle.std.specs.Prelude.{◌≡◌, ◌∷◌, ◌++◌, ℕ, Bool, List, None, Option, Some, codes, count_by}
 use Rattle.std.specs.Prelude.{decimal, is_some, length}
 use Rattle.cell_core.specs.declared.stamp.Stamp.{Stamp}
-use Rattle.cata_core.specs.Entries.{Entry}
-use Rattle.cata_core.specs.Latest.{latest_of}
+use Rattle.catalogue.specs.Entries.{Entry}
+use Rattle.catalogue.specs.Latest.{latest_of}
 use Rattle.cata_core.specs.Site.{SiteState}
 use Rattle.site_docs.specs.ReadsAs.{ReadsAsSite}
 use Rattle.query_docs.specs.Lines.{line}

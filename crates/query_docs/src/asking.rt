@@ -1,6 +1,6 @@
 //! Questions to a document of a site.
 ghost use Rattle.std.specs.Prelude.{◌≡◌, IfOk, MatchResult};
-ghost use Rattle.cata_core.specs.Reply.{reply_of};
+ghost use Rattle.catalogue.specs.Reply.{reply_of};
 ghost use Rattle.json_docs.specs.Checks.{OrMemory};
 ghost use Rattle.row_docs.specs.Reading.{IsOfDocument, no_memory};
 ghost use Rattle.site_docs.specs.ReadsAs.{RefusesSite};

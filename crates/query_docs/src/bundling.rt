@@ -1,7 +1,7 @@
 //! The labels of one reader: what a lookup answers for each message.
 ghost use Rattle.std.specs.Prelude.{◌≡◌, IfOk, List, MatchResult, option_map};
-ghost use Rattle.cata_core.specs.Lent.{lent_pair};
-ghost use Rattle.cata_core.specs.Reply.{reply_of};
+ghost use Rattle.catalogue.specs.Lent.{lent_pair};
+ghost use Rattle.catalogue.specs.Reply.{reply_of};
 ghost use Rattle.json_docs.specs.Checks.{OrMemory};
 ghost use Rattle.row_docs.specs.Reading.{IsOfDocument, no_memory};
 ghost use Rattle.site_docs.specs.ReadsAs.{RefusesSite};

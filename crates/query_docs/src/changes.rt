@@ -2,8 +2,8 @@
 ghost use Rattle.std.specs.Prelude.{◌≡◌, IfOk, MatchResult, OnOk, Some, length, option_map};
 ghost use Rattle.std.specs.Option.{option_copied};
 ghost use Rattle.cell_core.specs.Label.{texts_of};
-ghost use Rattle.cata_core.specs.Changes.{AreChanges, Changed};
-ghost use Rattle.cata_core.specs.ChangesLeft.{change_seen};
+ghost use Rattle.catalogue.specs.Changes.{AreChanges, Changed};
+ghost use Rattle.catalogue.specs.ChangesLeft.{change_seen};
 ghost use Rattle.json_docs.specs.Checks.{OrMemory};
 ghost use Rattle.row_docs.specs.Reading.{no_memory};
 ghost use Rattle.row_docs.specs.Texts.{Adds, value_tokens};

@@ -5,10 +5,10 @@ ghost use Rattle.std.specs.Ordering.{is_eq};
 ghost use Rattle.std.specs.FinMap.Entries.{find};
 ghost use Rattle.cell_core.specs.Found.{with_key};
 ghost use Rattle.nego_core.specs.WidenedChoice.{MatchEarliest};
-ghost use Rattle.cata_core.specs.Asking.{IsChosenIn, IsLookedUpIn};
-ghost use Rattle.cata_core.specs.Entries.{text_cmp};
-ghost use Rattle.cata_core.specs.Live.{is_live, languages};
-ghost use Rattle.cata_core.specs.declared.reply.Reply.{Reply};
+ghost use Rattle.catalogue.specs.Asking.{IsChosenIn, IsLookedUpIn};
+ghost use Rattle.cell_core.specs.Entry.{text_cmp};
+ghost use Rattle.catalogue.specs.Live.{is_live, languages};
+ghost use Rattle.catalogue.specs.declared.reply.Reply.{Reply};
 ghost use Rattle.site_docs.specs.Sink.{IsLabelRef, texts_of};
 ghost use Rattle.query_docs.specs.ByMessage.{AreLabelRefs};
 ghost use Rattle.query_docs.specs.LiveCells.{found_in, labels_of};
@@ -76,7 +76,7 @@ impl<'c, 't> LiveCells<'c, 't> {
 }
 
 impl Holds for LiveCells<'_, '_> {
-    ghost use Rattle.cata_core.specs.Live.{is_live};
+    ghost use Rattle.catalogue.specs.Live.{is_live};
     ghost use Rattle.query_docs.specs.LiveCells.{labels_of};
 
     ghost held = { λ live. is_live (labels_of live.cells.now) };
@@ -87,7 +87,7 @@ impl Holds for LiveCells<'_, '_> {
 }
 
 impl Languages for LiveCells<'_, '_> {
-    ghost use Rattle.cata_core.specs.Live.{languages};
+    ghost use Rattle.catalogue.specs.Live.{languages};
     ghost use Rattle.query_docs.specs.LiveCells.{labels_of};
 
     ghost texts = { λ live. languages (labels_of live.cells.now) };

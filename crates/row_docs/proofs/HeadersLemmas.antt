@@ -1,8 +1,15 @@
 -- One member more.
-use Rattle.std.proofs.Common.{◌≡◌, ◌∙◌, ℕ, List, Bool, true, false, codes, ap, subst, sym, refl}
+use Rattle.std.proofs.Common.{◌≡◌, ◌∙◌, ◌||◌, ℕ, List, Bool, true, false, codes, ap, subst, sym}
+use Rattle.std.proofs.Common.{refl}
 use Rattle.std.specs.Prelude.{Option, None, Some, is_some, option_and_then}
+use Rattle.std.specs.Ordering.{is_eq, match_ordering, nat_cmp}
+use Rattle.std.specs.declared.cmp.Ordering.{Ordering}
+use Rattle.std.specs.declared.cmp.Ordering.TheVariants.{Less, Equal, Greater}
+use Rattle.std.specs.Cmp.Lexicographic.{slice_cmp}
+use Rattle.std.specs.Str.{bytes_eq}
+use Rattle.std.proofs.lemmas.Map.Text.{is_eq-slice_cmp}
 use Rattle.std.proofs.lemmas.Slice.Eq.{bytes_eq-Decides}
-use Rattle.serde_json.specs.Data.{Data, Members, no_members, put}
+use Rattle.serde_json.specs.Data.{Data, Members, member, no_members, put}
 use Rattle.serde_json.specs.Find.{as_str, get_member}
 use Rattle.serde_json.proofs.Views.{get_member-put, get_member-put_other}
 use Rattle.json_docs.specs.Checks.{Check}
@@ -205,3 +212,30 @@ module _ {S : Type 0} (kind : Kind) (checks : List Data → Data → List Check)
           rows_part = rw (apart (rows_of kind) Rows (rows_is kind) (λ e. cc)) shown.rows_part;
           others = others_more kind name d ms is;
         }
+
+-- ---- which members there are
+
+by_order : (r : Ordering) (x : Option Data) (d : Data)
+    → is_some (match_ordering r x (Some d) x) ≡ (is_eq r || is_some x)
+by_order Less x d = refl
+by_order Equal x d = refl
+by_order Greater x d = refl
+
+-- Whether a name has a member, with one more member ahead.
+pub some_member : (name k : List ℕ) (d : Data) (ms : Members)
+    → is_some (get_member name (member k d ms)) ≡ (bytes_eq name k || is_some (get_member name ms))
+some_member name k d ms =
+    by_order (slice_cmp nat_cmp name k) (get_member name ms) d
+    ∙ ap (λ b. b || is_some (get_member name ms)) (is_eq-slice_cmp name k)
+
+-- The names of a header, as they are written or in ascending order.
+pub in_turn : (kind own rows version : Bool)
+    → (kind || (own || (rows || (version || false))))
+    ≡ (kind || (version || (own || (rows || false))))
+in_turn true own rows version = refl
+in_turn false true rows true = refl
+in_turn false true rows false = refl
+in_turn false false true true = refl
+in_turn false false true false = refl
+in_turn false false false true = refl
+in_turn false false false false = refl

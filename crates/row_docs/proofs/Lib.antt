@@ -12,3 +12,4 @@ pub mod TestsLemmas
 pub mod TextsLemmas
 pub mod WrittenRows
 pub mod WrittenTexts
+pub mod PlainTextsLemmas

@@ -1,8 +1,6 @@
 -- Languages are in lower case.
-use Rattle.std.proofs.Common.{◌≡◌, ◌∙◌, ℕ, List, [], ◌∷◌, Bool, true, false, ◌&&◌, map, refl, ap}
-use Rattle.std.proofs.Common.{ap₂, sym, subst, inl, inr, arith, ◌+◌}
-use Rattle.std.proofs.lemmas.Bool.Decides.{nat_tests}
-use Rattle.std.specs.Char.{to_ascii_lowercase}
+use Rattle.std.proofs.Common.{◌≡◌, ◌∙◌, ℕ, List, [], ◌∷◌, true, map, refl, ap}
+use Rattle.std.proofs.Common.{ap₂, sym, subst, inl, inr, ◌+◌}
 use Rattle.std.specs.List.{list_all}
 use Rattle.std.specs.Str.{str_to_ascii_lowercase}
 use Rattle.lang_core.specs.Tag.{IsTag}
@@ -10,22 +8,9 @@ use Rattle.lang_core.specs.Grammar.{are_allowed, is_alphanum, is_private_piece, 
 use Rattle.lang_core.specs.Lang.{IsLang, SpellsLang}
 use Rattle.lang_core.specs.Text.{joined, pieces}
 use Rattle.lang_core.proofs.PiecesLemmas.{joined-pieces, pieces-lower}
-
-second_true : (a b : Bool) → (a && b) ≡ true → b ≡ true
-second_true true b h = h
-second_true false b h = cc
-
-both_true : (a b : Bool) → (a && b) ≡ true → (a ≡ true) × (b ≡ true)
-both_true true b h = (refl, h)
-both_true false b h = cc
-
-lower_byte : (b : ℕ) → is_alphanum b ≡ true → to_ascii_lowercase b ≡ b
-lower_byte b h = grind (arith, nat_tests)
-
-lower_piece : (s : List ℕ) → list_all is_alphanum s ≡ true → str_to_ascii_lowercase s ≡ s
-lower_piece [] h = refl
-lower_piece (b ∷ s) h = let both = both_true (is_alphanum b) (list_all is_alphanum s) h in
-    ap₂ (λ x xs. x ∷ xs) (lower_byte b both.0) (lower_piece s both.1)
+use Rattle.json_docs.proofs.ReadableLemmas.{both_true}
+use Rattle.lang_core.proofs.CaseLemmas.{lower_alphanums as lower_piece}
+use Rattle.catalogue.proofs.Basics.{second_so as second_true}
 
 run_bytes : (s : List ℕ) → is_private_piece s ≡ true → list_all is_alphanum s ≡ true
 unfolding is_private_piece is_run

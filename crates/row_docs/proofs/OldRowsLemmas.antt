@@ -4,7 +4,8 @@ use Rattle.std.specs.Prelude.{Option, None, Some, map, option_map, option_and_th
 use Rattle.cell_core.specs.Migration.{OldStamp, migrated_stamp}
 use Rattle.cell_core.specs.SiteName.{padded_name}
 use Rattle.cata_core.specs.Delta.{Stamps}
-use Rattle.cata_core.specs.Entries.{Entries, EntryKey}
+use Rattle.cell_core.specs.Entry.{EntryKey}
+use Rattle.catalogue.specs.Entries.{Entries}
 use Rattle.cell_core.specs.declared.stamp.Stamp.{Stamp}
 use Rattle.cata_core.specs.Migration.{OldEntries, OldEntry, OldStamps}
 use Rattle.cata_core.specs.Migration.{migrated_entries, migrated_entry}

@@ -1,15 +1,12 @@
 -- A text reads as one value at most, and its data are those that the value is read from.
-use Rattle.std.proofs.Common.{◌≡◌, ◌∙◌, ℕ, List, [], ◌∷◌, map, refl, ap, ap₂, sym, subst}
-use Rattle.std.specs.Prelude.{Option, Some, unwrap_or}
+use Rattle.std.proofs.Common.{◌≡◌, ◌∙◌, ℕ, List, [], ◌∷◌, map, refl, ap₂, sym, subst}
+use Rattle.std.specs.Prelude.{Option, Some}
 use Rattle.serde_json.specs.Data.{Data}
-use Rattle.cata_core.specs.Entries.{EntryKey}
+use Rattle.cell_core.specs.Entry.{EntryKey}
 use Rattle.json_docs.specs.Checks.{AllPass, AreJson, Check}
 use Rattle.row_docs.specs.Reading.{Reads}
 use Rattle.row_docs.specs.Rising.{AreEntries}
-
--- what is in an option is one
-pub inside : {A : Type 0} (x y : A) → Some x ≡ Some y → x ≡ y
-inside {A} x y is = ap (λ (o : Option A). unwrap_or o x) is
+use Rattle.catalogue.proofs.Basics.{some_same as inside}
 
 -- lists whose values are the same are one
 pub same_some : {A : Type 0} (xs ys : List A) → map Some xs ≡ map Some ys → xs ≡ ys

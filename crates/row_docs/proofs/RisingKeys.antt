@@ -8,8 +8,8 @@ use Rattle.std.specs.declared.cmp.Ordering.TheVariants.{Less}
 use Rattle.serde_json.specs.Data.{Data}
 use Rattle.cell_core.specs.Keyed.{IsMap}
 use Rattle.cell_core.specs.declared.stamp.Stamp.{Stamp}
-use Rattle.cata_core.specs.Entries.{Entry, EntryKey, key_cmp, key_cmp_total}
-use Rattle.cata_core.proofs.Basics.{both_parts}
+use Rattle.cell_core.specs.Entry.{EntryKey, key_cmp, key_cmp_total}
+use Rattle.catalogue.specs.Entries.{Entry}
 use Rattle.json_docs.specs.Checks.{AllPass, Check, rows_checks}
 use Rattle.json_docs.proofs.ChecksLemmas.{AllPass-rest, AllPass-front}
 use Rattle.row_docs.specs.Fields.{IsAfter, order_check}
@@ -17,6 +17,7 @@ use Rattle.row_docs.specs.Rising.{AreEntries, cell_checks, entry_in, last_key, o
 use Rattle.row_docs.specs.Rising.{own_stamp_checks, stamp_checks, stamped_in}
 use Rattle.row_docs.specs.Rows.{cell_in, stamp_in}
 use Rattle.row_docs.specs.declared.version.Version.{Version}
+use Rattle.cell_core.proofs.Basics.{both_parts}
 use Rattle.row_docs.proofs.RisingLemmas.{key_of_cell, key_of_stamp, last_key-push}
 
 -- each key is after the one before it, and the first after the last that was there
@@ -24,7 +25,8 @@ abbrev AreAfter : {J : Type 0} → Option EntryKey → List (EntryKey × J) → 
 AreAfter last [] = Unit {0}
 AreAfter last (e ∷ es) = IsAfter last e.0 × AreAfter (Some e.0) es
 
-so_less : (o : Ordering) → o ≡ Less → T (is_lt o)
+-- A comparison that is `Less` passes its test for less.
+pub so_less : (o : Ordering) → o ≡ Less → T (is_lt o)
 so_less o is = subst (λ (r : Ordering). T (is_lt r)) (sym is) tt
 
 -- what is after a key is after a smaller one

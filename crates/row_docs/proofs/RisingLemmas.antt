@@ -8,7 +8,8 @@ use Rattle.std.proofs.lemmas.List.{length-map, map-append}
 use Rattle.std.proofs.lemmas.Option.{slice_get-map}
 use Rattle.serde_json.specs.Data.{Data}
 use Rattle.cell_core.specs.Keyed.{IsMap}
-use Rattle.cata_core.specs.Entries.{Entry, EntryKey, key_cmp, IsAboveAll}
+use Rattle.cell_core.specs.Entry.{EntryKey, key_cmp}
+use Rattle.catalogue.specs.Entries.{Entry, IsAboveAll}
 use Rattle.cell_core.specs.declared.stamp.Stamp.{Stamp}
 use Rattle.json_docs.specs.Checks.{AllPass, Check, FirstFails}
 use Rattle.json_docs.specs.declared.fault.DocCause.{DocCause}
@@ -23,10 +24,10 @@ use Rattle.row_docs.specs.Values.{Row}
 use Rattle.row_docs.specs.declared.fields.CellEntry.{CellEntry}
 use Rattle.row_docs.specs.declared.fields.StampEntry.{StampEntry}
 use Rattle.row_docs.specs.declared.version.Version.{Version}
-use Rattle.cata_core.proofs.Basics.{less_of}
-use Rattle.cata_core.proofs.BehindLemmas.{IsMap-behind}
-use Rattle.cata_core.proofs.LastKeysLemmas.{above_last, above_none}
+use Rattle.catalogue.proofs.BehindLemmas.{IsMap-behind}
+use Rattle.catalogue.proofs.LastKeysLemmas.{above_last, above_none}
 use Rattle.json_docs.proofs.ChecksLemmas.{AllPass-both, FirstFails-rest}
+use Rattle.lang_core.proofs.Basics.{less_of}
 
 at_end : (xs : List Data) (x : Data) → slice_get (xs ++ x ∷ []) (length xs) ≡ Some x
 at_end [] x = refl

@@ -26,6 +26,7 @@ use Rattle.row_docs.specs.declared.kind.Member.TheVariants.{Subject, Rows, Other
 use Rattle.row_docs.specs.declared.header.Header.{Header}
 use Rattle.row_docs.specs.declared.header.Subject.{Subject as SubjectValue}
 use Rattle.row_docs.specs.declared.tested_header.TestedHeader.{TestedHeader}
+use Rattle.lang_core.proofs.Basics.{is_false as false_if}
 use Rattle.row_docs.proofs.HeadersLemmas.{named_kind, named_rows, named_subject, named_version}
 use Rattle.row_docs.proofs.HeadersLemmas.{subject_is}
 
@@ -74,10 +75,6 @@ subject_shown : (o : Option SubjectValue) (m : Option Data) → is_some m ≡ tr
     → is_some o ≡ true
 subject_shown None m some shown = sym (ap is_some shown) ∙ some
 subject_shown (Some subject) m some shown = refl
-
-false_if : (b : Bool) → (b ≡ true → ⊥) → b ≡ false
-false_if true h = absurd (h refl)
-false_if false h = refl
 
 subject_held : (subject : SubjectValue) (o : Option SubjectValue) (m : Option Data)
     → o ≡ Some subject → ShowsSubject o m → IsSubject subject (unwrap_or m null)

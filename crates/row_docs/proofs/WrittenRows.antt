@@ -6,9 +6,9 @@ use Rattle.std.specs.Prelude.{Option, None, Some}
 use Rattle.std.specs.Ordering.{is_lt}
 use Rattle.std.specs.FinMap.Entries.{below_all, is_sorted}
 use Rattle.cell_core.specs.declared.stamp.Stamp.{Stamp}
-use Rattle.cata_core.specs.Entries.{Entries, Entry, EntryKey, key_cmp}
-use Rattle.cata_core.proofs.Basics.{first_part, less_than, second_part}
-use Rattle.cata_core.proofs.FlatLemmas.{all_first, all_rest}
+use Rattle.cell_core.specs.Entry.{EntryKey, key_cmp}
+use Rattle.catalogue.specs.Entries.{Entries, Entry}
+use Rattle.catalogue.proofs.FlatLemmas.{all_first, all_rest}
 use Rattle.serde_json.specs.Data.{Data, string}
 use Rattle.serde_json.specs.View.{items_of}
 use Rattle.json_docs.specs.Checks.{AllPass, rows_checks}
@@ -24,6 +24,7 @@ use Rattle.row_docs.specs.Valid.{AreKeptCells, AreKeptStamps, IsKeptCell, IsKept
 use Rattle.row_docs.specs.Values.{label_value}
 use Rattle.row_docs.specs.declared.version.Version.TheVariants.{Two}
 use Rattle.json_docs.proofs.ChecksLemmas.{AllPass-both}
+use Rattle.cell_core.proofs.Basics.{first_part, less_than, second_part}
 use Rattle.row_docs.proofs.LowerLemmas.{lower-IsLang, spells-IsLang}
 use Rattle.row_docs.proofs.RisingLemmas.{last_key-push}
 

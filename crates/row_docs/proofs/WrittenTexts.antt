@@ -18,8 +18,9 @@ use Rattle.serde_json.specs.Written.{items_outline, outline}
 use Rattle.serde_json.proofs.Numbers.{number_of-decimal}
 use Rattle.serde_json.proofs.Texts.{print-outline}
 use Rattle.cell_core.specs.declared.stamp.Stamp.{Stamp}
-use Rattle.cata_core.specs.Entries.{Entries, Entry, EntryKey}
-use Rattle.cata_core.proofs.FlatLemmas.{all_first, all_rest}
+use Rattle.cell_core.specs.Entry.{EntryKey}
+use Rattle.catalogue.specs.Entries.{Entries, Entry}
+use Rattle.catalogue.proofs.FlatLemmas.{all_first, all_rest}
 use Rattle.row_docs.specs.Entries.{cells_values, entry_value, stamps_values, stamped_value}
 use Rattle.row_docs.specs.Texts.{text}
 use Rattle.row_docs.specs.Valid.{IsKeptCell, IsKeptStamp}

@@ -3,7 +3,8 @@ use Rattle.std.specs.Prelude.{List, map}
 use Rattle.serde_json.specs.Data.{Data}
 use Rattle.cell_core.specs.declared.stamp.Stamp.{Stamp}
 use Rattle.cata_core.specs.Delta.{Stamps}
-use Rattle.cata_core.specs.Entries.{Entries, Entry, EntryKey}
+use Rattle.cell_core.specs.Entry.{EntryKey}
+use Rattle.catalogue.specs.Entries.{Entries, Entry}
 use Rattle.row_docs.specs.Values.{Row, cell_value, stamp_value}
 
 -- the key and the stamp of an entry

@@ -1,6 +1,7 @@
 -- Entries that were made, as pairs of a key and what it has.
 use Rattle.cell_core.specs.declared.stamp.Stamp.{Stamp}
-use Rattle.cata_core.specs.Entries.{Entry, EntryKey}
+use Rattle.cell_core.specs.Entry.{EntryKey}
+use Rattle.catalogue.specs.Entries.{Entry}
 use Rattle.row_docs.specs.declared.fields.CellEntry.{CellEntry}
 use Rattle.row_docs.specs.declared.fields.StampEntry.{StampEntry}
 

@@ -11,7 +11,8 @@ use Rattle.cell_core.specs.declared.fault.CellFault.{CellFault}
 use Rattle.cell_core.specs.declared.fault.CellFault.TheVariants.{IdRefused, SiteName}
 use Rattle.cell_core.specs.declared.fault.CellFault.TheVariants as cell
 use Rattle.cell_core.specs.declared.stamp.Stamp.{Stamp}
-use Rattle.cata_core.specs.Entries.{Entry, EntryKey, key_cmp}
+use Rattle.cell_core.specs.Entry.{EntryKey, key_cmp}
+use Rattle.catalogue.specs.Entries.{Entry}
 use Rattle.lang_core.specs.Lang.{RefusesLang, SpellsLang}
 use Rattle.lang_core.specs.declared.fault.LangFault.{LangFault}
 use Rattle.lang_core.specs.declared.fault.LangFault.TheVariants as lang

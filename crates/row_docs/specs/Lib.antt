@@ -7,6 +7,7 @@ pub mod HeaderTests
 pub mod Headers
 pub mod Kinds
 pub mod OldRows
+pub mod PlainTexts
 pub mod Reading
 pub mod Rising
 pub mod Rows

@@ -4,7 +4,8 @@ use Rattle.std.specs.Prelude.{Option, None, Some, is_some, unwrap_or, option_map
 use Rattle.serde_json.specs.Data.{Data}
 use Rattle.cell_core.specs.declared.stamp.Stamp.{Stamp}
 use Rattle.cell_core.specs.Keyed.{IsMap}
-use Rattle.cata_core.specs.Entries.{Entry, EntryKey, key_cmp}
+use Rattle.cell_core.specs.Entry.{EntryKey, key_cmp}
+use Rattle.catalogue.specs.Entries.{Entry}
 use Rattle.json_docs.specs.Checks.{Check, check}
 use Rattle.json_docs.specs.declared.fault.DocCause.TheVariants.{Shape}
 use Rattle.row_docs.specs.Fields.{cell_fields, entry_of, key_of, order_check, stamp_fields}

@@ -7,7 +7,8 @@ use Rattle.cell_core.specs.SiteName.{IsSiteName}
 use Rattle.cell_core.specs.declared.stamp.Stamp.{Stamp}
 use Rattle.lang_core.specs.Lang.{IsLang}
 use Rattle.cata_core.specs.Delta.{Stamps}
-use Rattle.cata_core.specs.Entries.{Entries, Entry, EntryKey, key_cmp}
+use Rattle.cell_core.specs.Entry.{EntryKey, key_cmp}
+use Rattle.catalogue.specs.Entries.{Entries, Entry}
 use Rattle.row_docs.specs.Fields.{IsLabelText}
 
 -- the id, the language and the site's name are some, and time and count fit 64 and 32 bits

@@ -5,6 +5,7 @@
 //!   another; a summary takes its rows so.
 //! - [`CellRow`] is a row as it is written, and [`cell_entry`] what it means; [`entry_of_row`] is
 //!   both.
+//! - [`plain_texts`] reads what is in the form that is written byte by byte.
 //! - [`write_entry`] and [`write_stamped`] write a row, [`write_texts`] the texts of a label, and
 //!   [`finish`] ends a document.
 //!
@@ -17,6 +18,7 @@ mod fields;
 mod header;
 mod kind;
 pub mod laws;
+pub mod plain_texts;
 mod rising;
 mod shapes;
 mod tested_header;

@@ -11,29 +11,29 @@ use Rattle.std.proofs.lemmas.Bool.Decides.{nat_tests}
 use Rattle.std.proofs.lemmas.List.{length-map}
 use Rattle.std.proofs.lemmas.List.Elements.{All-append, All-cons, All-head, All-nil, All-tail}
 use Rattle.std.proofs.lemmas.List.Splits.{slice_split_at, slice_split_none}
-use Rattle.std.proofs.lemmas.List.Sums.{sum_by-cons}
 use Rattle.lang_core.specs.Grammar.{ExtendedRange, is_digit}
 use Rattle.lang_core.specs.Range.{IsRange}
 use Rattle.lang_core.specs.Text.{pieces, pieces_by}
 use Rattle.lang_core.proofs.LookupLemmas.{lower-range}
-use Rattle.lang_core.proofs.PiecesLemmas.{size_pieces}
+use Rattle.lang_core.proofs.PiecesLemmas.{size_pieces, size_cons}
 use Rattle.lang_core.proofs.RangeText.{basic_extended, is_range_byte, range_bytes}
-use Rattle.nego_core.specs.Field.{IsElement, IsPadded, RangeGrammar, WeightGrammar}
-use Rattle.nego_core.specs.Field.{ArePieces, IsField, RefusesField}
-use Rattle.nego_core.specs.Item.{Item, item_eq, item_equiv}
-use Rattle.nego_core.specs.Weight.{HasWeight, IsQvalue, thousandths}
-use Rattle.nego_core.specs.declared.fault.NegoFault.{NegoFault}
-use Rattle.nego_core.specs.declared.fault.NegoFault.TheVariants.{FieldMalformed, FieldTooLong}
-use Rattle.nego_core.specs.declared.fault.NegoFault.TheVariants.{NoMemory}
-use Rattle.nego_core.specs.declared.field.Malformed.TheVariants.{Refused}
-use Rattle.nego_core.specs.declared.scheme.Scheme.{Scheme}
-use Rattle.nego_core.specs.declared.scheme.Scheme.TheVariants.{Basic, Extended}
-use Rattle.nego_core.proofs.FieldLemmas.{malformed_is_no_field}
-use Rattle.nego_core.proofs.FieldUnique.{one_items}
-use Rattle.nego_core.proofs.WeightBounds.{small_weights}
+use Rattle.list_core.specs.Field.{IsElement, IsPadded, RangeGrammar, WeightGrammar}
+use Rattle.list_core.specs.Field.{ArePieces, IsField, RefusesField}
+use Rattle.list_core.specs.Item.{Item, item_eq, item_equiv}
+use Rattle.list_core.specs.Weight.{HasWeight, IsQvalue, thousandths}
+use Rattle.list_core.specs.declared.fault.NegoFault.{NegoFault}
+use Rattle.list_core.specs.declared.fault.NegoFault.TheVariants.{FieldMalformed, FieldTooLong}
+use Rattle.list_core.specs.declared.fault.NegoFault.TheVariants.{NoMemory}
+use Rattle.list_core.specs.declared.field.Malformed.TheVariants.{Refused}
+use Rattle.list_core.specs.declared.scheme.Scheme.{Scheme}
+use Rattle.list_core.specs.declared.scheme.Scheme.TheVariants.{Basic, Extended}
+use Rattle.list_core.proofs.FieldLemmas.{malformed_is_no_field}
+use Rattle.list_core.proofs.FieldUnique.{one_items, item_is}
+use Rattle.list_core.proofs.WeightBounds.{small_weights}
 use Rattle.script_docs.specs.FieldWritten.{IsListed, field_text, fraction_text, item_text}
 use Rattle.script_docs.specs.FieldWritten.{ones_text, tens_text, weight_text}
 use Rattle.script_docs.specs.StepFields.{Lists}
+use Rattle.list_core.proofs.PackedTagLemmas.{eq_is as same_number}
 
 -- ---- the digits of a weight
 
@@ -370,10 +370,6 @@ record AreAgain (scheme : Scheme) (pieces : List (List ℕ)) (items : List Item)
 abbrev AreSmall : List Item → Type 0
 AreSmall items = All (λ i. i.weight ≤ 1000) items
 
-size_cons : (s : List ℕ) (list : List (List ℕ))
-    → sum_by (λ x. length x + 1) (s ∷ list) ≡ (length s + 1) + sum_by (λ x. length x + 1) list
-size_cons s list = sum_by-cons (λ x. length x + 1) s list
-
 pieces_again : (scheme : Scheme) (pieces : List (List ℕ)) (items : List Item) → AreSmall items
     → ArePieces scheme Refused pieces items → AreAgain scheme pieces items
 pieces_again scheme [] [] small a = record { fits = tt; shorter = omega arith; plain = tt }
@@ -468,14 +464,6 @@ refused_lists_none scheme text items FieldTooLong other refuses lists =
 refused_lists_none scheme text items (FieldMalformed offset) other refuses lists =
     malformed_is_no_field scheme text offset items refuses.1 lists.1
 refused_lists_none scheme text items NoMemory other refuses lists = other refl
-
-item_is : (i j : Item) → i.range ≡ j.range → i.weight ≡ j.weight → i ≡ j
-item_is i j r w =
-    ap (λ (x : List ℕ). record { range = x; weight = i.weight }) r
-    ∙ ap (λ (n : ℕ). record { range = j.range; weight = n }) w
-
-same_number : (m n : ℕ) → (m == n) ≡ true → m ≡ n
-same_number m n h = grind (arith, nat_tests)
 
 item_decides : (i j : Item) → Decides (item_eq i j) (i ≡ j)
 item_decides i j = (

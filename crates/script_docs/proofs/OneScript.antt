@@ -5,16 +5,17 @@ use Rattle.std.specs.Str.{str_to_ascii_lowercase}
 use Rattle.serde_json.specs.Data.{Data}
 use Rattle.cata_core.specs.declared.step.Step.{Step}
 use Rattle.cata_core.specs.declared.step.Step.TheVariants.{AskFilter, AskLookup}
-use Rattle.nego_core.specs.declared.field.Malformed.TheVariants.{Refused}
-use Rattle.nego_core.specs.declared.scheme.Scheme.TheVariants.{Basic}
-use Rattle.nego_core.proofs.FieldUnique.{one_items}
+use Rattle.list_core.specs.declared.field.Malformed.TheVariants.{Refused}
+use Rattle.list_core.specs.declared.scheme.Scheme.TheVariants.{Basic}
+use Rattle.list_core.proofs.FieldUnique.{one_items}
 use Rattle.row_docs.specs.declared.version.Version.{Version}
-use Rattle.row_docs.proofs.OneReading.{inside, one_read}
+use Rattle.row_docs.proofs.OneReading.{one_read}
 use Rattle.script_docs.specs.ScriptReads.{IsScriptDocument, ReadsAsScript, script_checks}
 use Rattle.script_docs.specs.Scripts.{ScriptState}
 use Rattle.script_docs.specs.StepFields.{AreSteps, IsStep, Makes}
 use Rattle.script_docs.specs.Steps.{StepText, edit_step, merge_step, filter_step, lookup_step}
 use Rattle.script_docs.specs.Steps.{cells_step, tell_step, post_step, deliver_step}
+use Rattle.catalogue.proofs.Basics.{some_same as inside}
 
 one_made : (text : StepText) (s t : Step) → Makes text s → Makes text t → s ≡ t
 one_made (edit_step site row) s t p q = p ∙ sym q

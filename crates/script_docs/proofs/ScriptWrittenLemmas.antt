@@ -1,25 +1,19 @@
 -- A script that was written reads as it was.
-use Rattle.std.proofs.Common.{◌≡◌, ◌∙◌, ◌+◌, ◌<◌, ◌^◌, ◌||◌, ◌++◌, ℕ, List, [], ◌∷◌, Bool, true}
-use Rattle.std.proofs.Common.{false, codes, decimal, get_or, inl, inr, length, map, refl, ap, subst}
+use Rattle.std.proofs.Common.{◌≡◌, ◌∙◌, ◌+◌, ◌<◌, ◌^◌, ◌++◌, ℕ, List, [], ◌∷◌, true}
+use Rattle.std.proofs.Common.{codes, decimal, get_or, inl, inr, length, map, refl, ap, subst}
 use Rattle.std.proofs.Common.{sym, take, arith}
-use Rattle.std.specs.Prelude.{◌&&◌, All, IsUtf8, Option, Some, is_some, nat_le}
-use Rattle.std.specs.Ordering.{is_eq, match_ordering, nat_cmp}
-use Rattle.std.specs.declared.cmp.Ordering.{Ordering}
-use Rattle.std.specs.declared.cmp.Ordering.TheVariants.{Less, Equal, Greater}
-use Rattle.std.specs.Cmp.Lexicographic.{slice_cmp}
+use Rattle.std.specs.Prelude.{◌&&◌, All, IsUtf8, Some, nat_le}
 use Rattle.std.specs.Str.{bytes_eq}
 use Rattle.std.proofs.lemmas.Bool.Decides.{nat_tests}
 use Rattle.std.proofs.lemmas.List.{map-append, take_more}
 use Rattle.std.proofs.lemmas.List.Elements.{All-cons, All-nil}
-use Rattle.std.proofs.lemmas.Map.Text.{is_eq-slice_cmp}
 use Rattle.std.proofs.lemmas.Option.{slice_get-get_or}
 use Rattle.cata_core.specs.declared.step.Step.{Step}
 use Rattle.json.specs.Print.{print}
 use Rattle.json.specs.Token.{begin_object, begin_array, end_array, key, number, string}
 use Rattle.json.specs.Written.{Written}
 use Rattle.json.proofs.Printed.Decimals.{IsNumber-decimal}
-use Rattle.serde_json.specs.Data.{Data, Members, member}
-use Rattle.serde_json.specs.Find.{get_member}
+use Rattle.serde_json.specs.Data.{Data}
 use Rattle.serde_json.proofs.Numbers.{number_of-decimal}
 use Rattle.json_docs.specs.Checks.{AllPass, Check, rows_checks}
 use Rattle.json_docs.specs.declared.fault.DocCause.{DocCause}
@@ -36,6 +30,7 @@ use Rattle.script_docs.specs.StepFields.{step_checks}
 use Rattle.script_docs.specs.Steps.{StepText}
 use Rattle.script_docs.specs.StepsWritten.{IsWritableStep, RefusesStep, WritesStep, step_value}
 use Rattle.json_docs.proofs.ChecksLemmas.{AllPass-both}
+use Rattle.row_docs.proofs.HeadersLemmas.{in_turn, some_member}
 use Rattle.row_docs.proofs.TextsLemmas.{printed, row_tokens-push, rows_member}
 use Rattle.row_docs.proofs.WrittenRows.{list_of-items_of}
 use Rattle.row_docs.proofs.WrittenTexts.{read-text}
@@ -109,29 +104,6 @@ script_closed draft sites rows holds =
     (sym (rows_member rows version_tokens)))
 
 -- ---- members by their names
-
-by_order : (r : Ordering) (x : Option Data) (d : Data)
-    → is_some (match_ordering r x (Some d) x) ≡ (is_eq r || is_some x)
-by_order Less x d = refl
-by_order Equal x d = refl
-by_order Greater x d = refl
-
-some_member : (name k : List ℕ) (d : Data) (ms : Members)
-    → is_some (get_member name (member k d ms)) ≡ (bytes_eq name k || is_some (get_member name ms))
-some_member name k d ms =
-    by_order (slice_cmp nat_cmp name k) (get_member name ms) d
-    ∙ ap (λ b. b || is_some (get_member name ms)) (is_eq-slice_cmp name k)
-
-in_turn : (kind own rows version : Bool)
-    → (kind || (own || (rows || (version || false))))
-    ≡ (kind || (version || (own || (rows || false))))
-in_turn true own rows version = refl
-in_turn false true rows true = refl
-in_turn false true rows false = refl
-in_turn false false true true = refl
-in_turn false false true false = refl
-in_turn false false false true = refl
-in_turn false false false false = refl
 
 script_names : (sites : ℕ) (rows : List Data) → HasJust (names_of Script) (script_value sites rows)
 script_names sites rows q =

@@ -2,8 +2,8 @@
 -- that is 1 (RFC 9110 section 12.5.4). Project rule.
 use Rattle.std.specs.Prelude.{ℕ, ◌+◌, ◌/◌, ◌%◌, ◌==◌, List, [], ◌∷◌, ◌++◌, codes, if◌then◌else◌}
 use Rattle.std.specs.List.{join_by}
-use Rattle.nego_core.specs.Item.{Item}
-use Rattle.nego_core.specs.declared.scheme.Scheme.{Scheme}
+use Rattle.list_core.specs.Item.{Item}
+use Rattle.list_core.specs.declared.scheme.Scheme.{Scheme}
 use Rattle.script_docs.specs.StepFields.{Lists}
 
 -- some field reads as the list under the scheme

@@ -1,7 +1,7 @@
 -- Scripts of version 1, with sites by their numbers. Project rule.
 use Rattle.std.specs.Prelude.{◌≡◌, ℕ, List, [], ◌∷◌, codes, Option, Some, option_map}
 use Rattle.std.specs.Str.{str_to_ascii_lowercase}
-use Rattle.nego_core.specs.declared.scheme.Scheme.TheVariants.{Basic}
+use Rattle.list_core.specs.declared.scheme.Scheme.TheVariants.{Basic}
 use Rattle.cata_core.specs.OldSteps.{OldStep, OldEdit, OldMerge, OldAskFilter, OldAskLookup}
 use Rattle.cata_core.specs.OldSteps.{OldAskCells, OldTell, OldPost, OldDeliver, migrated_steps}
 use Rattle.serde_json.specs.Data.{Data}

@@ -2,13 +2,13 @@
 use Rattle.std.specs.Prelude.{◌≡◌, ◌≢◌, ◌≤◌, ℕ, true, List, [], ◌∷◌, length, Option, None, Some}
 use Rattle.std.specs.Prelude.{is_some, option_map}
 use Rattle.std.specs.Str.{str_to_ascii_lowercase}
-use Rattle.nego_core.specs.Field.{IsField, RefusesField}
-use Rattle.nego_core.specs.Item.{Item}
-use Rattle.nego_core.specs.declared.fault.NegoFault.{NegoFault}
-use Rattle.nego_core.specs.declared.fault.NegoFault.TheVariants as nego
-use Rattle.nego_core.specs.declared.field.Malformed.TheVariants.{Refused}
-use Rattle.nego_core.specs.declared.scheme.Scheme.{Scheme}
-use Rattle.nego_core.specs.declared.scheme.Scheme.TheVariants.{Basic}
+use Rattle.list_core.specs.Field.{IsField, RefusesField}
+use Rattle.list_core.specs.Item.{Item}
+use Rattle.list_core.specs.declared.fault.NegoFault.{NegoFault}
+use Rattle.list_core.specs.declared.fault.NegoFault.TheVariants as nego
+use Rattle.list_core.specs.declared.field.Malformed.TheVariants.{Refused}
+use Rattle.list_core.specs.declared.scheme.Scheme.{Scheme}
+use Rattle.list_core.specs.declared.scheme.Scheme.TheVariants.{Basic}
 use Rattle.cata_core.specs.declared.step.Step.{Step}
 use Rattle.cata_core.specs.declared.step.Step.TheVariants.{Edit, Merge, AskFilter, AskLookup}
 use Rattle.cata_core.specs.declared.step.Step.TheVariants.{AskCells, Tell, Post, Deliver}

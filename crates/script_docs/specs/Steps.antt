@@ -2,8 +2,8 @@
 use Rattle.std.specs.Prelude.{ℕ, List, [], ◌∷◌, codes, Option, None, Some, if◌then◌else◌}
 use Rattle.std.specs.Prelude.{option_map, option_and_then}
 use Rattle.std.specs.Str.{bytes_eq}
-use Rattle.nego_core.specs.declared.scheme.Scheme.{Scheme}
-use Rattle.nego_core.specs.declared.scheme.Scheme.TheVariants.{Basic, Extended}
+use Rattle.list_core.specs.declared.scheme.Scheme.{Scheme}
+use Rattle.list_core.specs.declared.scheme.Scheme.TheVariants.{Basic, Extended}
 use Rattle.serde_json.specs.Data.{Data, null, boolean, number, string, array, object}
 use Rattle.serde_json.specs.Find.{as_str}
 use Rattle.json_docs.specs.Parts.{items_in, u32_in}

@@ -5,8 +5,8 @@ use Rattle.cata_core.specs.declared.step.Step.TheVariants.{Edit, Merge, AskFilte
 use Rattle.cata_core.specs.declared.step.Step.TheVariants.{AskCells, Tell, Post, Deliver}
 use Rattle.json.specs.Written.{Written}
 use Rattle.lang_core.specs.Lang.{IsLang}
-use Rattle.nego_core.specs.declared.scheme.Scheme.{Scheme}
-use Rattle.nego_core.specs.declared.scheme.Scheme.TheVariants.{Basic, Extended}
+use Rattle.list_core.specs.declared.scheme.Scheme.{Scheme}
+use Rattle.list_core.specs.declared.scheme.Scheme.TheVariants.{Basic, Extended}
 use Rattle.serde_json.specs.Data.{Data, null, array, number, unsigned, string, no_items, item}
 use Rattle.json_docs.specs.Checks.{AllPass, OrMemory}
 use Rattle.json_docs.specs.declared.fault.DocCause.{DocCause}

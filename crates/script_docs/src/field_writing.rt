@@ -1,7 +1,7 @@
 //! The fields of priority lists, written (RFC 9110 section 12.5.4).
 ghost use Rattle.std.specs.Prelude.{◌≡◌, ◌≢◌, ◌≤◌, ◌<◌, ◌+◌, ◌∷◌, ◌++◌, [], flat_map, string_bytes};
 ghost use Rattle.std.specs.Prelude.{false, IfOk, OnOk, MatchBool, MatchOption};
-ghost use Rattle.nego_core.specs.declared.fault.NegoFault.TheVariants.{NoMemory};
+ghost use Rattle.list_core.specs.declared.fault.NegoFault.TheVariants.{NoMemory};
 ghost use Rattle.script_docs.specs.FieldWritten.{IsListed, field_text, fraction_text, item_text};
 ghost use Rattle.script_docs.specs.FieldWritten.{ones_text, tens_text, weight_text};
 ghost use Rattle.script_docs.specs.StepFields.{Lists};

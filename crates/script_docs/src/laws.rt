@@ -1,7 +1,7 @@
 //! Laws over the definitions alone, each the contract of a function that does nothing.
 ghost use Rattle.std.specs.Prelude.{◌≡◌, ◌≤◌, ℕ, List, length};
-ghost use Rattle.nego_core.specs.Item.{Item};
-ghost use Rattle.nego_core.specs.declared.scheme.Scheme.{Scheme};
+ghost use Rattle.list_core.specs.Item.{Item};
+ghost use Rattle.list_core.specs.declared.scheme.Scheme.{Scheme};
 ghost use Rattle.script_docs.specs.FieldWritten.{field_text};
 ghost use Rattle.script_docs.specs.ScriptReads.{ReadsAsScript, IsScriptDocument};
 ghost use Rattle.script_docs.specs.Scripts.{ScriptState};

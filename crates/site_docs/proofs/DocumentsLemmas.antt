@@ -1,21 +1,15 @@
 -- Lists with one more of them.
-use Rattle.std.proofs.Common.{◌≡◌, ◌+◌, ◌<◌, ◌++◌, ℕ, zero, suc, List, [], ◌∷◌, take, length, ap}
-use Rattle.std.proofs.Common.{add-one, arith}
+use Rattle.std.proofs.Common.{◌≡◌, ◌+◌, ◌++◌, ℕ, zero, suc, List, [], ◌∷◌, take, ap}
+use Rattle.std.proofs.Common.{add-one}
 use Rattle.std.proofs.lemmas.List.Elements.{All-append, All-cons, All-nil}
 use Rattle.std.specs.List.{All}
-use Rattle.std.specs.Prelude.{None, Some, slice_get}
+use Rattle.std.specs.Prelude.{Some, slice_get}
 
 taken : {A : Type 0} (xs : List A) (k : ℕ) (x : A) → slice_get xs k ≡ Some x → take (suc k) xs
     ≡ take k xs ++ x ∷ []
 taken [] k x is = cc
 taken (y ∷ xs) zero x is = cc
 taken (y ∷ xs) (suc k) x is = ap (λ t. y ∷ t) (taken xs k x is)
-
--- there is a stamp at each place
-pub some_at : {A : Type 0} (xs : List A) (k : ℕ) → k < length xs → slice_get xs k ≡ None → ⊥
-some_at [] k h is = omega (arith, h)
-some_at (x ∷ xs) zero h is = cc
-some_at (x ∷ xs) (suc k) h is = some_at xs k (omega (arith, h)) is
 
 -- one more is as all before it
 pub kept_more : {X : Type 0} (P : X → Type 0) (xs : List X) (x : X) → All P xs → P x

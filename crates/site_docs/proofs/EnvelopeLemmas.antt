@@ -7,7 +7,7 @@ use Rattle.json.specs.Print.{print, print_from, quoted}
 use Rattle.serde_json.specs.Data.{Data}
 use Rattle.cell_core.specs.SiteName.{IsSiteName}
 use Rattle.cata_core.specs.Delta.{Stamps}
-use Rattle.cata_core.specs.Entries.{Entries}
+use Rattle.catalogue.specs.Entries.{Entries}
 use Rattle.cata_core.specs.Site.{SiteState}
 use Rattle.cata_core.specs.Summary.{SummaryState}
 use Rattle.cata_core.specs.declared.delta.Delta.{Delta as DeltaState}

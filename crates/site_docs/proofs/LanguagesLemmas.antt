@@ -11,7 +11,7 @@ use Rattle.lang_core.proofs.Basics.{each_true}
 use Rattle.row_docs.proofs.LowerLemmas.{lower-IsLang}
 
 -- a piece that is refused is not in a list of allowed ones
-not_allowed : (allowed : ℕ → List ℕ → Bool) (from : ℕ) (before after : List (List ℕ))
+pub not_allowed : (allowed : ℕ → List ℕ → Bool) (from : ℕ) (before after : List (List ℕ))
     (piece : List ℕ) → are_allowed allowed from (before ++ piece ∷ after) ≡ true
     → allowed (from + length before) piece ≡ false → ⊥
 not_allowed allowed from [] after piece all not =

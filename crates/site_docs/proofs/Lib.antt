@@ -13,6 +13,6 @@ pub mod ShownRowsLemmas
 pub mod SiteDocumentsLemmas
 pub mod StampsDraftLemmas
 pub mod LanguagesLemmas
-pub mod TextsLemmas
 pub mod WrittenDocuments
 pub mod WrittenRowsLemmas
+pub mod RowsInTimeLemmas

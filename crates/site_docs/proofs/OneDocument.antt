@@ -1,14 +1,15 @@
 -- A text reads as one site, one delta and one summary at most.
 use Rattle.std.proofs.Common.{◌≡◌, ◌∙◌, ℕ, List, ap₂, sym}
 use Rattle.serde_json.specs.Data.{Data}
-use Rattle.cata_core.specs.Entries.{Entries}
+use Rattle.catalogue.specs.Entries.{Entries}
 use Rattle.cata_core.specs.Site.{SiteState}
 use Rattle.cata_core.specs.Summary.{SummaryState}
 use Rattle.cata_core.specs.declared.delta.Delta.{Delta}
-use Rattle.row_docs.proofs.OneReading.{inside, one_read, same_entries}
+use Rattle.row_docs.proofs.OneReading.{one_read, same_entries}
 use Rattle.site_docs.specs.ReadsAs.{ReadsAsDelta, ReadsAsSite, ReadsAsSummary}
 use Rattle.site_docs.specs.SiteDocuments.{IsDeltaDocument, IsSiteDocument, IsSummaryDocument}
 use Rattle.site_docs.specs.SiteDocuments.{delta_checks, site_checks, summary_checks}
+use Rattle.catalogue.proofs.Basics.{some_same as inside}
 
 site_is : (d : Data) (s t : SiteState) → IsSiteDocument d s → IsSiteDocument d t → s ≡ t
 site_is d s t p q =

@@ -12,8 +12,9 @@ use Rattle.serde_json.specs.Data.{Data, array, string}
 use Rattle.serde_json.specs.View.{items_of}
 use Rattle.serde_json.specs.Written.{comma_if, compact_text, items_text}
 use Rattle.cell_core.specs.SiteName.{IsSiteName}
-use Rattle.cata_core.specs.Entries.{Entries, Entry, EntryKey, IsAboveAll, key_cmp, key_cmp_total}
-use Rattle.cata_core.proofs.BehindLemmas.{IsMap-behind}
+use Rattle.cell_core.specs.Entry.{EntryKey, key_cmp, key_cmp_total}
+use Rattle.catalogue.specs.Entries.{Entries, Entry, IsAboveAll}
+use Rattle.catalogue.proofs.BehindLemmas.{IsMap-behind}
 use Rattle.row_docs.specs.Entries.{cells_values, entry_value}
 use Rattle.row_docs.specs.Kinds.{kind_text, subject_of}
 use Rattle.site_docs.specs.Plain.{IsEnd, IsPlainText, IsTextOf, cells_document}
@@ -23,7 +24,7 @@ use Rattle.row_docs.specs.Valid.{AreKeptCells, IsKeptCell}
 use Rattle.row_docs.specs.Values.{Row, cell_value, label_value, stamp_value}
 use Rattle.row_docs.specs.declared.kind.Kind.{Kind}
 use Rattle.site_docs.proofs.DocumentsLemmas.{kept_more}
-use Rattle.site_docs.proofs.TextsLemmas.{quotes_taken}
+use Rattle.row_docs.proofs.PlainTextsLemmas.{quotes_taken}
 
 -- ---- arrays
 
@@ -48,7 +49,7 @@ is_later-push [] x = refl
 is_later-push (y ∷ xs) x = refl
 
 -- items after others
-open_later : (ds es : List Data)
+pub open_later : (ds es : List Data)
     → open_items true (ds ++ es) ≡ open_items true ds ++ open_items true es
 open_later [] es = refl
 open_later (d ∷ ds) es = ap (λ r. 44 ∷ (compact_text d ++ r)) (open_later ds es)

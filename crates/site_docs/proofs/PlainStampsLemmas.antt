@@ -9,8 +9,9 @@ use Rattle.serde_json.specs.Written.{comma_if, compact_text}
 use Rattle.cell_core.specs.SiteName.{IsSiteName}
 use Rattle.cell_core.specs.declared.stamp.Stamp.{Stamp}
 use Rattle.cata_core.specs.Delta.{Stamps}
-use Rattle.cata_core.specs.Entries.{EntryKey, IsAboveAll}
-use Rattle.cata_core.proofs.BehindLemmas.{IsMap-behind}
+use Rattle.cell_core.specs.Entry.{EntryKey}
+use Rattle.catalogue.specs.Entries.{IsAboveAll}
+use Rattle.catalogue.proofs.BehindLemmas.{IsMap-behind}
 use Rattle.json_docs.proofs.LineFeed.{read-line_feed}
 use Rattle.row_docs.specs.Entries.{stamped_value, stamps_values}
 use Rattle.row_docs.specs.Texts.{text}

@@ -1,16 +1,10 @@
 -- A document that was written passes all tests, and reads as what it was written for.
-use Rattle.std.proofs.Common.{◌≡◌, ◌∙◌, ◌||◌, ◌++◌, ℕ, List, [], Bool, true, false, codes, refl, ap}
+use Rattle.std.proofs.Common.{◌≡◌, ◌∙◌, ◌||◌, ◌++◌, ℕ, List, [], Bool, true, false, codes, refl}
 use Rattle.std.proofs.Common.{inr}
-use Rattle.std.specs.Prelude.{Option, Some, IsUtf8, is_some}
-use Rattle.std.specs.Ordering.{is_eq, match_ordering, nat_cmp}
-use Rattle.std.specs.declared.cmp.Ordering.{Ordering}
-use Rattle.std.specs.declared.cmp.Ordering.TheVariants.{Less, Equal, Greater}
-use Rattle.std.specs.Cmp.Lexicographic.{slice_cmp}
+use Rattle.std.specs.Prelude.{IsUtf8}
 use Rattle.std.specs.Str.{bytes_eq}
-use Rattle.std.proofs.lemmas.Map.Text.{is_eq-slice_cmp}
 use Rattle.cell_core.specs.SiteName.{IsSiteName}
-use Rattle.serde_json.specs.Data.{Data, Members, member}
-use Rattle.serde_json.specs.Find.{get_member}
+use Rattle.serde_json.specs.Data.{Data}
 use Rattle.serde_json.specs.Read.{read}
 use Rattle.cata_core.specs.declared.delta.Delta.{Delta as DeltaState}
 use Rattle.cata_core.specs.Site.{SiteState}
@@ -30,22 +24,12 @@ use Rattle.row_docs.specs.declared.kind.Kind.{Kind}
 use Rattle.row_docs.specs.declared.kind.Kind.TheVariants.{Delta, Site, Summary}
 use Rattle.row_docs.specs.declared.version.Version.{Version}
 use Rattle.json_docs.proofs.ChecksLemmas.{AllPass-both}
+use Rattle.row_docs.proofs.HeadersLemmas.{in_turn, some_member}
 use Rattle.row_docs.proofs.WrittenRows.{cells_pass, entries_again, list_of-items_of, stamps_again}
 use Rattle.row_docs.proofs.WrittenRows.{stamps_pass}
 use Rattle.site_docs.proofs.WrittenDocuments.{read-delta, read-site, read-summary}
 
 -- ---- members by their names
-
-by_order : (r : Ordering) (x : Option Data) (d : Data) → is_some (match_ordering r x (Some d) x)
-    ≡ (is_eq r || is_some x)
-by_order Less x d = refl
-by_order Equal x d = refl
-by_order Greater x d = refl
-
-some_member : (name k : List ℕ) (d : Data) (ms : Members)
-    → is_some (get_member name (member k d ms)) ≡ (bytes_eq name k || is_some (get_member name ms))
-some_member name k d ms = by_order (slice_cmp nat_cmp name k) (get_member name ms) d
-    ∙ ap (λ b. b || is_some (get_member name ms)) (is_eq-slice_cmp name k)
 
 rows_first : (rows kind subject version : Bool)
     → (rows || (kind || (subject || (version || false))))
@@ -60,17 +44,6 @@ rows_first false false true true = refl
 rows_first false false true false = refl
 rows_first false false false true = refl
 rows_first false false false false = refl
-
-rows_third : (kind subject rows version : Bool)
-    → (kind || (subject || (rows || (version || false))))
-    ≡ (kind || (version || (subject || (rows || false))))
-rows_third true subject rows version = refl
-rows_third false true rows true = refl
-rows_third false true rows false = refl
-rows_third false false true true = refl
-rows_third false false true false = refl
-rows_third false false false true = refl
-rows_third false false false false = refl
 
 -- the document of a site has the members of its kind
 site_names : (name : List ℕ) (rows : List Data) → HasJust (names_of Site) (site_value name rows)
@@ -109,7 +82,7 @@ summary_names name rows q =
           (codes "stamps"),
       some_member q (codes "version"),
     )
-    (rows_third (bytes_eq q (codes "kind")) (bytes_eq q (codes "owner"))
+    (in_turn (bytes_eq q (codes "kind")) (bytes_eq q (codes "owner"))
     (bytes_eq q (codes "stamps")) (bytes_eq q (codes "version")))
 
 -- ---- documents

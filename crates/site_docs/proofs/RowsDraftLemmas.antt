@@ -7,7 +7,8 @@ use Rattle.std.specs.Prelude.{IsUtf8}
 use Rattle.json.specs.Print.{escape_byte, print, print_from}
 use Rattle.serde_json.specs.Data.{Data}
 use Rattle.cell_core.specs.Keyed.{IsMap}
-use Rattle.cata_core.specs.Entries.{Entries, Entry, key_cmp}
+use Rattle.cell_core.specs.Entry.{key_cmp}
+use Rattle.catalogue.specs.Entries.{Entries, Entry}
 use Rattle.row_docs.specs.Entries.{cells_values, entry_value}
 use Rattle.row_docs.specs.Valid.{IsKeptCell}
 use Rattle.site_docs.specs.Envelope.{IsFront, cells_opening}

@@ -4,7 +4,8 @@ use Rattle.std.proofs.Common.{length-append, refl, sym}
 use Rattle.std.specs.Prelude.{◌↔◌, IfSome, Option, option_map, slice_get}
 use Rattle.serde_json.specs.Data.{Data}
 use Rattle.cell_core.specs.Keyed.{IsMap}
-use Rattle.cata_core.specs.Entries.{Entries, Entry, EntryKey, IsAboveAll, key_cmp}
+use Rattle.cell_core.specs.Entry.{EntryKey, key_cmp}
+use Rattle.catalogue.specs.Entries.{Entries, Entry, IsAboveAll}
 use Rattle.row_docs.specs.Fields.{IsAfter}
 use Rattle.row_docs.specs.Rising.{entry_in}
 use Rattle.row_docs.specs.declared.version.Version.{Version}

@@ -4,7 +4,8 @@ use Rattle.std.proofs.lemmas.List.{map-append}
 use Rattle.cell_core.specs.Keyed.{IsMap}
 use Rattle.cell_core.specs.declared.stamp.Stamp.{Stamp}
 use Rattle.cata_core.specs.Delta.{Stamps, summary_of}
-use Rattle.cata_core.specs.Entries.{Entries, Entry, EntryKey, key_cmp}
+use Rattle.cell_core.specs.Entry.{EntryKey, key_cmp}
+use Rattle.catalogue.specs.Entries.{Entries, Entry}
 use Rattle.row_docs.specs.Entries.{stamped_value, stamps_values}
 use Rattle.row_docs.specs.Valid.{IsKeptStamp}
 use Rattle.site_docs.specs.Envelope.{IsStampsFront, stamps_opening}

@@ -6,7 +6,8 @@ use Rattle.json.proofs.Printed.Decimals.{IsNumber-decimal}
 use Rattle.serde_json.specs.Read.{read}
 use Rattle.serde_json.proofs.Numbers.{number_of-decimal}
 use Rattle.cell_core.specs.declared.stamp.Stamp.{Stamp}
-use Rattle.cata_core.specs.Entries.{Entries, EntryKey}
+use Rattle.cell_core.specs.Entry.{EntryKey}
+use Rattle.catalogue.specs.Entries.{Entries}
 use Rattle.row_docs.specs.Entries.{cells_values, stamps_values}
 use Rattle.row_docs.specs.Texts.{text}
 use Rattle.row_docs.specs.Valid.{IsKeptCell, IsKeptStamp}

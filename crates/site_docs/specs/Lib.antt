@@ -14,3 +14,4 @@ pub mod StampsDraft
 pub mod Unread
 pub mod Values
 pub mod WrittenRows
+pub mod RowsInTime

@@ -1,15 +1,14 @@
 -- Documents in the form in which they are written, and texts that begin with a part of one.
 -- Project rule.
-use Rattle.std.specs.Prelude.{◌≡◌, ◌⊎◌, ◌<◌, ◌≤◌, ◌+◌, ◌++◌, ◌∷◌, [], ℕ, List, Bool, true, false}
-use Rattle.std.specs.Prelude.{IsUtf8, codes, decimal, get_or, length, take}
-use Rattle.json.specs.Print.{escape_byte, quoted}
-use Rattle.json.specs.Run.{is_stop}
+use Rattle.std.specs.Prelude.{◌≡◌, ◌⊎◌, ◌+◌, ◌++◌, ◌∷◌, [], ℕ, List, Bool, true, false}
+use Rattle.std.specs.Prelude.{IsUtf8, codes, decimal}
+use Rattle.json.specs.Print.{quoted}
 use Rattle.serde_json.specs.Data.{Data, array, member, no_members, number, object, string}
 use Rattle.serde_json.specs.Data.{unsigned}
 use Rattle.serde_json.specs.View.{items_of}
 use Rattle.serde_json.specs.Written.{comma_if, compact_text}
 use Rattle.cell_core.specs.SiteName.{IsSiteName}
-use Rattle.cata_core.specs.Entries.{Entries}
+use Rattle.catalogue.specs.Entries.{Entries}
 use Rattle.row_docs.specs.Entries.{cells_values}
 use Rattle.row_docs.specs.Kinds.{kind_text, subject_of}
 use Rattle.row_docs.specs.Texts.{text}
@@ -65,31 +64,3 @@ last_members kind subject name end =
     (quoted name ++ 44 ∷ (quoted (codes "version") ++ 58 ∷ (decimal 2 ++ end))))))
 
 -- ---- strings
-
--- the text begins with the escape of this byte, which is ASCII, and goes on with the rest
-abbrev pub IsEscaped : ℕ → List ℕ → List ℕ → Type 0
-IsEscaped byte text rest = (text ≡ escape_byte byte ++ rest) × (byte < 128)
-
--- no byte before this place ends a string or is escaped in it
-abbrev pub IsPlainBefore : List ℕ → ℕ → Type 0
-IsPlainBefore bytes place = (k : ℕ) → k < place → is_stop (get_or bytes k 0) ≡ false
-
--- the first byte that ends a string or is escaped in it is at this place
-pub record IsFirstStop (bytes : List ℕ) (place : ℕ) : Type 0 where
-  pub within : place < length bytes
-  pub stops : is_stop (get_or bytes place 0) ≡ true
-  pub before : IsPlainBefore bytes place
-
--- ---- numbers
-
--- the digit at this place
-pub record IsDigitAt (bytes : List ℕ) (place digit : ℕ) : Type 0 where
-  pub is : get_or bytes place 0 ≡ 48 + digit
-  pub small : digit < 10
-  pub within : place < length bytes
-
--- the first `len` bytes are the number in decimal
-pub record IsDecimalFront (bytes : List ℕ) (number len : ℕ) : Type 0 where
-  pub is : take len bytes ≡ decimal number
-  pub within : len ≤ length bytes
-  pub last : (before : ℕ) × (len ≡ before + 1) × (get_or bytes before 0 < 128)

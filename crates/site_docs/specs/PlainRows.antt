@@ -5,7 +5,8 @@ use Rattle.cell_core.specs.MessageId.{IsMessageId}
 use Rattle.cell_core.specs.SiteName.{IsSiteName}
 use Rattle.lang_core.specs.Lang.{IsLang}
 use Rattle.cell_core.specs.declared.stamp.Stamp.{Stamp}
-use Rattle.cata_core.specs.Entries.{Entry, EntryKey, IsAboveAll}
+use Rattle.cell_core.specs.Entry.{EntryKey}
+use Rattle.catalogue.specs.Entries.{Entry, IsAboveAll}
 use Rattle.row_docs.specs.Fields.{IsAfter, stamp_of}
 use Rattle.row_docs.specs.Values.{Row}
 use Rattle.site_docs.specs.declared.plain.rows.Front.{Front}

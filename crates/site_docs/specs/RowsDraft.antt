@@ -1,6 +1,6 @@
 -- A site's document that is being written.
 use Rattle.std.specs.Prelude.{All}
-use Rattle.cata_core.specs.Entries.{Entries}
+use Rattle.catalogue.specs.Entries.{Entries}
 use Rattle.row_docs.specs.Entries.{cells_values}
 use Rattle.row_docs.specs.Valid.{IsKeptCell}
 use Rattle.site_docs.specs.Envelope.{cells_opening}

@@ -1,7 +1,8 @@
 -- The rows of a document that are shown to a sink.
 use Rattle.std.specs.Prelude.{◌≡◌, ◌-◌, List, IfSome, length, option_map, slice_get}
 use Rattle.serde_json.specs.Data.{Data}
-use Rattle.cata_core.specs.Entries.{Entries, EntryKey}
+use Rattle.cell_core.specs.Entry.{EntryKey}
+use Rattle.catalogue.specs.Entries.{Entries}
 use Rattle.row_docs.specs.Rising.{MakesEntries, entry_in}
 use Rattle.row_docs.specs.declared.version.Version.{Version}
 use Rattle.site_docs.specs.declared.document.shown_rows.RowKey.{RowKey}

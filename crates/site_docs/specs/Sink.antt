@@ -2,7 +2,7 @@
 use Rattle.std.specs.Prelude.{◌≡◌, ◌++◌, ℕ, List, [], ◌∷◌, IfSome, None, Option, Some, take}
 use Rattle.serde_json.specs.Written.{compact_text}
 use Rattle.cell_core.specs.Label.{IsLabel}
-use Rattle.cata_core.specs.Entries.{Entry}
+use Rattle.catalogue.specs.Entries.{Entry}
 use Rattle.row_docs.specs.Entries.{entry_value, stamped_value}
 use Rattle.row_docs.specs.Valid.{IsKeptCell}
 use Rattle.site_docs.specs.declared.sink.CellRef.{CellRef}

@@ -4,7 +4,7 @@ use Rattle.std.specs.Prelude.{codes, false, length, option_map, ⊤}
 use Rattle.std.specs.List.{cons_option}
 use Rattle.json.specs.Print.{quoted}
 use Rattle.serde_json.specs.Written.{compact_text}
-use Rattle.cata_core.specs.Entries.{Entries, Entry, IsAboveAll}
+use Rattle.catalogue.specs.Entries.{Entries, Entry, IsAboveAll}
 use Rattle.row_docs.specs.Entries.{cells_values, entry_value}
 use Rattle.row_docs.specs.Fields.{stamp_of}
 use Rattle.row_docs.specs.Valid.{AreKeptCells, IsKeptCell}

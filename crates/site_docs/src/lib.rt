@@ -5,7 +5,8 @@
 //! read one document of several, which a refusal names.
 //! [`show_document`] shows the cells of a site's document to a [`CellSink`], which keeps what it
 //! needs of them, and builds no catalogue;
-//! [`show_catalogue`] shows those of a catalogue. [`document_summary`] makes the summary of a
+//! [`show_catalogue`] shows those of a catalogue, and [`RowsInTime`] looks whether the times of
+//! what another sink sees are in a limit. [`document_summary`] makes the summary of a
 //! document as its rows are read, and a [`RowsDraft`] copies the rows of one document to another.
 //! [`WrittenRows`] reads those of a document that is as it is written at its caller's pace.
 //!
@@ -17,6 +18,7 @@ pub mod laws;
 mod open_rows;
 mod plain;
 mod rows_draft;
+mod rows_in_time;
 mod showing;
 mod sink;
 mod stamps_draft;
@@ -26,5 +28,6 @@ pub use document::writing::{write_delta, write_site, write_summary};
 pub use plain::summaries::document_summary;
 pub use plain::written_rows::{WrittenRow, WrittenRows};
 pub use rows_draft::RowsDraft;
+pub use rows_in_time::RowsInTime;
 pub use showing::{show_catalogue, show_document};
 pub use sink::{CellRef, CellSink, LabelRef, RowText};

@@ -7,6 +7,5 @@ pub(crate) mod languages;
 pub(crate) mod rows;
 pub(crate) mod stamps;
 pub(crate) mod summaries;
-pub(crate) mod texts;
 pub(crate) mod unread;
 pub(crate) mod written_rows;

@@ -2,7 +2,7 @@
 ghost use Rattle.std.specs.Prelude.{◌≡◌, ◌++◌, ◌∷◌, [], IfOk, OnOk, is_some};
 ghost use Rattle.cell_core.specs.Label.{IsLabel};
 ghost use Rattle.cata_core.specs.Delta.{summary_of};
-ghost use Rattle.cata_core.specs.Entries.{Entries, IsAboveAll};
+ghost use Rattle.catalogue.specs.Entries.{Entries, IsAboveAll};
 ghost use Rattle.site_docs.specs.Sink.{IsLabelRef, IsRowOf, entry_of, texts_of};
 
 use cata_core::{Catalogue, Summary};

@@ -11,8 +11,8 @@ use Rattle.json.specs.Print.{quoted}
 use Rattle.serde_json.specs.Data.{Data, array, string}
 use Rattle.serde_json.specs.View.{items_of}
 use Rattle.serde_json.specs.Written.{comma_if, compact_text}
-use Rattle.cata_core.specs.Entries.{Entries, Entry}
-use Rattle.cata_core.proofs.Basics.{first_so, second_so}
+use Rattle.catalogue.specs.Entries.{Entries, Entry}
+use Rattle.catalogue.proofs.Basics.{first_so, second_so}
 use Rattle.row_docs.specs.Entries.{cells_values, entry_value, row_of}
 use Rattle.row_docs.specs.Valid.{IsKeptCell}
 use Rattle.row_docs.specs.Values.{Row, label_value}

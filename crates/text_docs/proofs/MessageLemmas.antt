@@ -29,14 +29,15 @@ use Rattle.std.proofs.Math.Seq.{get_or-append_seam}
 use Rattle.json.specs.Print.{quoted}
 use Rattle.serde_json.specs.Data.{Data}
 use Rattle.serde_json.specs.Written.{compact_text}
-use Rattle.cata_core.specs.Entries.{Entries, Entry, key_cmp, text_cmp}
-use Rattle.cata_core.specs.Live.{live, live_of}
+use Rattle.cell_core.specs.Entry.{key_cmp, text_cmp}
+use Rattle.catalogue.specs.Entries.{Entries, Entry}
+use Rattle.catalogue.specs.Live.{live, live_of}
 use Rattle.row_docs.specs.Entries.{cells_values, entry_value}
 use Rattle.row_docs.specs.Valid.{AreKeptCells, IsKeptCell}
 use Rattle.row_docs.specs.declared.kind.Kind.TheVariants.{Site}
 use Rattle.site_docs.specs.Plain.{IsEnd, IsPlainText, IsTextOf, cells_document, last_members}
 use Rattle.site_docs.specs.Plain.{open_items, rows_text}
-use Rattle.site_docs.proofs.PlainLemmas.{document_taken}
+use Rattle.site_docs.proofs.PlainLemmas.{document_taken, open_later as later_items}
 use Rattle.text_docs.specs.Part.{BeginsAt, BeginsBefore, EndsAfter, EndsAt}
 use Rattle.text_docs.specs.Rows.{AreRows, AreRowsAt, IsTail, opening}
 use Rattle.text_docs.proofs.BorderLemmas.{array_is, rows_step}
@@ -152,14 +153,6 @@ drop_utf8 bytes rest place is starts utf8 =
     (subst IsUtf8 (sym (take-append-drop place bytes) ∙ ap (λ r. take place bytes ++ r) is) utf8)).1
 
 -- ---- rows one after another
-
-later_items : (ds es : List Data)
-    → open_items true (ds ++ es) ≡ open_items true ds ++ open_items true es
-later_items [] es = refl
-later_items (d ∷ ds) es =
-    ap (λ r. 44 ∷ (compact_text d ++ r)) (later_items ds es)
-    ∙ ap (λ r. 44 ∷ r)
-    (sym (append_assoc (compact_text d) (open_items true ds) (open_items true es)))
 
 first_items : (d : Data) (ds es : List Data)
     → open_items false ((d ∷ ds) ++ es) ≡ open_items false (d ∷ ds) ++ open_items true es

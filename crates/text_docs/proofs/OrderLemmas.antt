@@ -11,7 +11,7 @@ use Rattle.std.proofs.lemmas.List.Elements.{All-head, All-tail}
 use Rattle.memchr.specs.Find.{Nowhere, Passes, is_byte}
 use Rattle.json.specs.Print.{escape, escape_byte}
 use Rattle.cell_core.specs.MessageId.{is_id_byte}
-use Rattle.cata_core.specs.Entries.{text_cmp}
+use Rattle.cell_core.specs.Entry.{text_cmp}
 use Rattle.std.specs.Cmp.{nat_cmp_total}
 use Rattle.std.specs.Ordering.{nat_cmp, ordering_reverse, ordering_then}
 use Rattle.std.specs.declared.cmp.Ordering.{Ordering}

@@ -17,9 +17,9 @@ use Rattle.std.specs.Char.{digit_char}
 use Rattle.std.specs.Prelude.{nat_lt}
 use Rattle.std.proofs.lemmas.Bool.Decides.{nat_tests}
 use Rattle.cell_core.specs.Keyed.{IsMap}
-use Rattle.cata_core.specs.Entries.{Entries, Entry, EntryKey, key_cmp, text_cmp}
-use Rattle.cata_core.proofs.Basics.{both_parts, first_part, second_part, less_than}
-use Rattle.cata_core.proofs.BehindLemmas.{front_below}
+use Rattle.cell_core.specs.Entry.{EntryKey, key_cmp, text_cmp}
+use Rattle.catalogue.specs.Entries.{Entries, Entry}
+use Rattle.catalogue.proofs.BehindLemmas.{front_below}
 use Rattle.row_docs.specs.Entries.{cells_values, row_of}
 use Rattle.row_docs.specs.Valid.{IsKeptCell}
 use Rattle.site_docs.specs.Plain.{IsEnd, last_members, open_items}
@@ -27,6 +27,10 @@ use Rattle.site_docs.specs.PlainRows.{row_before}
 use Rattle.text_docs.specs.Part.{BeginsAt, BeginsBefore, EndsAfter, EndsAt}
 use Rattle.text_docs.specs.Row.{ReadsAsRow, is_unclosed, is_unclosed_from}
 use Rattle.text_docs.specs.Rows.{AreRows, AreRowsAt, IsTail, opening}
+use Rattle.lang_core.proofs.Basics.{less_of as less_is}
+use Rattle.cell_core.proofs.Basics.{is_greater as greater_is, both_parts, first_part, second_part}
+use Rattle.docs_core.proofs.JoinedRowsLemmas.{below_part as below_front}
+use Rattle.cell_core.proofs.Basics.{less_than}
 use Rattle.text_docs.proofs.BorderLemmas.{IsBorder, IsCut, byte_44, byte_58, closed_row, comma}
 use Rattle.text_docs.proofs.BorderLemmas.{cut_rows, fit_rows, found_outside, kind_unfit, row_unfit}
 use Rattle.text_docs.proofs.BorderLemmas.{rows_step, skip}
@@ -326,15 +330,6 @@ map_back (x ∷ xs) ys map =
     map_back xs ys
     (second_part (below_all key_cmp x.0 (xs ++ ys)) (is_sorted key_cmp (xs ++ ys)) map)
 
-below_front : (k : EntryKey) (xs ys : Entries) → T (below_all key_cmp k (xs ++ ys))
-    → T (below_all key_cmp k xs)
-below_front k [] ys all = tt
-below_front k (x ∷ xs) ys all =
-    both_parts (is_lt (key_cmp k x.0)) (below_all key_cmp k xs)
-    (first_part (is_lt (key_cmp k x.0)) (below_all key_cmp k (xs ++ ys)) all)
-    (below_front k xs ys
-    (second_part (is_lt (key_cmp k x.0)) (below_all key_cmp k (xs ++ ys)) all))
-
 -- and so are the first ones
 pub map_front : (xs ys : Entries) → IsMap key_cmp (xs ++ ys) → IsMap key_cmp xs
 map_front [] ys map = tt
@@ -408,16 +403,6 @@ row_id text written cells tail place rows row =
 abbrev pub IsOrder : List ℕ → List ℕ → Ordering → Type 0
 IsOrder written id order = (text : List ℕ) → All IsIdByte text → written ≡ escape text
     → order ≡ text_cmp text id
-
-less_is : (o : Ordering) → is_lt o ≡ true → o ≡ Less
-less_is Less is = refl
-less_is Equal is = absurd (true≢false (sym is))
-less_is Greater is = absurd (true≢false (sym is))
-
-greater_is : (o : Ordering) → is_gt o ≡ true → o ≡ Greater
-greater_is Greater is = refl
-greater_is Equal is = absurd (true≢false (sym is))
-greater_is Less is = absurd (true≢false (sym is))
 
 -- no row before one of a lesser id is of the message
 pub begins_at_lesser : (text written id : List ℕ) (place : ℕ) (order : Ordering)

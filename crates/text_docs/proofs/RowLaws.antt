@@ -12,8 +12,8 @@ use Rattle.lang_core.specs.Lang.{IsLang}
 use Rattle.lang_core.specs.Tag.{IsTag}
 use Rattle.lang_core.specs.Text.{pieces}
 use Rattle.lang_core.proofs.PiecesLemmas.{joined-pieces, some_pieces}
-use Rattle.cata_core.specs.Entries.{Entries, Entry}
-use Rattle.cata_core.proofs.Basics.{first_so, second_so}
+use Rattle.catalogue.specs.Entries.{Entries, Entry}
+use Rattle.catalogue.proofs.Basics.{first_so, second_so}
 use Rattle.row_docs.specs.Entries.{cells_values}
 use Rattle.row_docs.specs.Valid.{IsKeptCell}
 use Rattle.row_docs.specs.declared.kind.Kind.TheVariants.{Site}

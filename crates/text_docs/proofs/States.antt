@@ -8,7 +8,7 @@ use Rattle.std.specs.Char.{digit_char}
 use Rattle.std.proofs.lemmas.Bool.Decides.{nat_tests}
 use Rattle.std.proofs.lemmas.Fmt.{decimal_by_steps}
 use Rattle.json.specs.Print.{escape, escape_byte, escape_letter, quoted}
-use Rattle.cata_core.proofs.Basics.{first_so, second_so}
+use Rattle.catalogue.proofs.Basics.{first_so, second_so}
 
 -- outside of strings, in one, after a backslash in one, or just after one
 pub data State : Type 0 where

@@ -1,7 +1,8 @@
 -- Parts of a written document that have all rows of a message. Project rule.
 use Rattle.std.specs.Prelude.{◌≡◌, ◌++◌, ℕ, All, List, drop, false, true}
 use Rattle.std.specs.declared.cmp.Ordering.TheVariants.{Greater, Less}
-use Rattle.cata_core.specs.Entries.{Entries, text_cmp}
+use Rattle.cell_core.specs.Entry.{text_cmp}
+use Rattle.catalogue.specs.Entries.{Entries}
 use Rattle.row_docs.specs.Entries.{cells_values}
 use Rattle.site_docs.specs.Plain.{open_items}
 use Rattle.text_docs.specs.Rows.{AreRows}

@@ -2,7 +2,7 @@
 use Rattle.std.specs.Prelude.{◌≡◌, ◌≤◌, ◌∷◌, ◌++◌, [], ℕ, List, codes, drop, false, length, true}
 use Rattle.json.specs.Print.{quoted}
 use Rattle.cell_core.specs.SiteName.{IsSiteName}
-use Rattle.cata_core.specs.Entries.{Entries, Entry}
+use Rattle.catalogue.specs.Entries.{Entries, Entry}
 use Rattle.row_docs.specs.Entries.{cells_values}
 use Rattle.row_docs.specs.Valid.{AreKeptCells}
 use Rattle.site_docs.specs.Plain.{IsEnd, last_members, open_items}

@@ -3,7 +3,7 @@ ghost use Rattle.std.specs.Prelude.{◌≡◌, ◌<◌, ◌∷◌, [], List, ℕ
 ghost use Rattle.std.specs.Prelude.{length};
 ghost use Rattle.json.specs.Print.{escape};
 ghost use Rattle.cell_core.specs.MessageId.{is_id_byte};
-ghost use Rattle.cata_core.specs.Entries.{text_cmp};
+ghost use Rattle.cell_core.specs.Entry.{text_cmp};
 
 use crate::row::split;
 use memchr::memchr;

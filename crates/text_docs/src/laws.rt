@@ -1,6 +1,6 @@
 //! Laws over the definitions alone, each the contract of a function that does nothing.
 ghost use Rattle.std.specs.Prelude.{◌↔◌, ℕ, List, drop};
-ghost use Rattle.cata_core.specs.Entries.{Entries};
+ghost use Rattle.catalogue.specs.Entries.{Entries};
 ghost use Rattle.row_docs.specs.declared.kind.Kind.TheVariants as kind;
 ghost use Rattle.site_docs.specs.Plain.{IsPlainText};
 ghost use Rattle.text_docs.specs.Row.{ReadsAsRow};

@@ -1,8 +1,8 @@
 //! One message of a written document.
 ghost use Rattle.std.specs.Prelude.{◌≡◌, ◌≤◌, ◌++◌, List, ℕ, IfOk, MatchResult, drop, length};
 ghost use Rattle.std.specs.List.{slice_range};
-ghost use Rattle.cata_core.specs.Entries.{Entries};
-ghost use Rattle.cata_core.specs.Live.{live};
+ghost use Rattle.catalogue.specs.Entries.{Entries};
+ghost use Rattle.catalogue.specs.Live.{live};
 ghost use Rattle.row_docs.specs.Reading.{no_memory};
 ghost use Rattle.row_docs.specs.declared.kind.Kind.TheVariants as kind;
 ghost use Rattle.site_docs.specs.Plain.{IsPlainText};

@@ -4,20 +4,18 @@ ghost use Rattle.std.specs.Prelude.{◌≡◌, [], ◌∷◌, IfErr, OnOk, lengt
 ghost use Rattle.cata_core.specs.declared.step.Step.TheVariants.{Edit as EditStep, Merge};
 ghost use Rattle.cata_core.specs.declared.step.Step.TheVariants.{AskFilter, AskLookup, AskCells};
 ghost use Rattle.cata_core.specs.declared.step.Step.TheVariants.{Tell, Post, Deliver};
-ghost use Rattle.cata_core.specs.Entries.{Entries, Agree, joined};
-ghost use Rattle.cata_core.specs.CataFault.{IsRefusal, IsOfCells};
+ghost use Rattle.catalogue.specs.Entries.{Entries, Agree, joined};
+ghost use Rattle.catalogue.specs.CataFault.{IsRefusal, IsOfCells};
 ghost use Rattle.cata_core.specs.PlayFault.{IsFaultOf};
 ghost use Rattle.cata_core.specs.World.{held_in, IsRunning, IsStepped, IsClashAt};
 
 use crate::answer::{Answer, Edits};
-use crate::cata_fault::CataFault;
-use crate::catalogue::Catalogue;
 use crate::delta::missing_cells;
-use crate::edit::Edit;
 use crate::play_fault::PlayFault;
 use crate::runs::world::{PostedDelta, ToldSummary, World};
 use crate::step::Step;
 use crate::summary::Summary;
+use catalogue::{CataFault, Catalogue, Edit};
 use cell_core::{MessageId, SiteName};
 use lang_core::Lang;
 use nego_core::{PriorityList, Scheme};

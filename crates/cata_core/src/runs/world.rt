@@ -3,14 +3,14 @@
 ghost use Rattle.std.specs.Prelude.{◌≡◌};
 
 use crate::answer::Answer;
-use crate::catalogue::Catalogue;
 use crate::summary::Summary;
+use catalogue::Catalogue;
 use std::marker::Model;
 
 /// A summary that was told, with the place of the site that told it: sites are places here, and
 /// the names of summaries are none.
 #[derive(Drop)]
-pub struct ToldSummary {
+pub(crate) struct ToldSummary {
     teller: usize,
     summary: Summary,
 }
@@ -25,21 +25,21 @@ impl Model for ToldSummary {
 
 impl ToldSummary {
     /// The summary, told by the site at this place.
-    pub fn new(teller: usize, summary: Summary) -> ToldSummary
+    pub(crate) fn new(teller: usize, summary: Summary) -> ToldSummary
         ensures { result ≡ record { teller = teller; stamps = summary.stamps } }
     {
         ToldSummary { teller, summary }
     }
 
     /// The place of the site that told it.
-    pub fn teller(&self) -> usize
+    pub(crate) fn teller(&self) -> usize
         ensures { result ≡ self.now.teller }
     {
         self.teller
     }
 
     /// The summary.
-    pub fn summary(&self) -> &Summary
+    pub(crate) fn summary(&self) -> &Summary
         ensures { result.now.stamps ≡ self.now.stamps }
     {
         &self.summary
@@ -48,7 +48,7 @@ impl ToldSummary {
 
 /// A delta that was posted, with the place of the site that it is for.
 #[derive(Drop)]
-pub struct PostedDelta {
+pub(crate) struct PostedDelta {
     addressee: usize,
     cells: Catalogue,
 }
@@ -63,21 +63,21 @@ impl Model for PostedDelta {
 
 impl PostedDelta {
     /// The delta of these cells, for the site at this place.
-    pub fn new(addressee: usize, cells: Catalogue) -> PostedDelta
+    pub(crate) fn new(addressee: usize, cells: Catalogue) -> PostedDelta
         ensures { result ≡ record { addressee = addressee; cells = cells } }
     {
         PostedDelta { addressee, cells }
     }
 
     /// The place of the site that it is for.
-    pub fn addressee(&self) -> usize
+    pub(crate) fn addressee(&self) -> usize
         ensures { result ≡ self.now.addressee }
     {
         self.addressee
     }
 
     /// The cells of the delta.
-    pub fn cells(&self) -> &Catalogue
+    pub(crate) fn cells(&self) -> &Catalogue
         ensures { result.now ≡ self.now.cells }
     {
         &self.cells
@@ -86,13 +86,13 @@ impl PostedDelta {
 
 /// The catalogues of the sites by place, and what was told, posted and answered so far.
 #[derive(Drop)]
-pub struct World {
+pub(crate) struct World {
     /// The catalogues, each at the place of its site.
-    pub sites: Vec<Catalogue>,
+    pub(crate) sites: Vec<Catalogue>,
     /// The summaries that were told, in order.
-    pub told: Vec<ToldSummary>,
+    pub(crate) told: Vec<ToldSummary>,
     /// The deltas that were posted, in order.
-    pub posts: Vec<PostedDelta>,
+    pub(crate) posts: Vec<PostedDelta>,
     /// The answers, in order.
-    pub answers: Vec<Answer>,
+    pub(crate) answers: Vec<Answer>,
 }

@@ -1,8 +1,9 @@
 //! The changes from old language maps to new ones, found as the cells of a site are seen.
 ghost use Rattle.std.specs.Prelude.{◌≡◌, ◌++◌, ◌∷◌, [], IfOk, List, OnOk};
 ghost use Rattle.cell_core.specs.Keyed.{IsMap};
-ghost use Rattle.cata_core.specs.Entries.{Entries, IsAboveAll, key_cmp};
-ghost use Rattle.cata_core.specs.Latest.{latest_of};
+ghost use Rattle.cell_core.specs.Entry.{key_cmp};
+ghost use Rattle.catalogue.specs.Entries.{Entries, IsAboveAll};
+ghost use Rattle.catalogue.specs.Latest.{latest_of};
 ghost use Rattle.map_docs.specs.LangMaps.{Labelled, labels_of};
 ghost use Rattle.site_docs.specs.Sink.{entry_of, texts_of};
 ghost use Rattle.docs_core.specs.FoundChanges.{HoldsFound, IsFound, IsNoted, changes_of};

@@ -1,8 +1,8 @@
 //! Labels put into a site.
 ghost use Rattle.std.specs.Prelude.{◌≡◌, ◌++◌, ℕ, IfErr, IfSome, List, MatchResult, OnErr, OnOk};
-ghost use Rattle.cata_core.specs.Entries.{Entries};
-ghost use Rattle.cata_core.specs.Latest.{latest_of};
-ghost use Rattle.cata_core.specs.declared.cata_fault.CataFault.TheVariants.{ClockSpent, NoMemory};
+ghost use Rattle.catalogue.specs.Entries.{Entries};
+ghost use Rattle.catalogue.specs.Latest.{latest_of};
+ghost use Rattle.catalogue.specs.declared.cata_fault.CataFault.TheVariants.{ClockSpent, NoMemory};
 ghost use Rattle.json_docs.specs.Checks.{OrMemory};
 ghost use Rattle.row_docs.specs.Reading.{no_memory};
 ghost use Rattle.site_docs.specs.ReadsAs.{IsSiteText, ReadsAsSite};

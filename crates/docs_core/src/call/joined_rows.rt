@@ -3,10 +3,11 @@ ghost use Rattle.std.specs.Prelude.{◌≡◌, ◌≢◌, ◌+◌, ◌++◌, ◌
 ghost use Rattle.std.specs.Prelude.{All, OnOk, length};
 ghost use Rattle.std.specs.declared.cmp.Ordering.TheVariants.{Greater, Less};
 ghost use Rattle.cell_core.specs.Keyed.{IsMap};
-ghost use Rattle.cata_core.specs.CataFault.{IsRefusal};
-ghost use Rattle.cata_core.specs.Cells.{cells_left};
-ghost use Rattle.cata_core.specs.Entries.{Agree, Entries, IsAboveAll, joined, key_cmp};
-ghost use Rattle.cata_core.specs.Equality.{seen};
+ghost use Rattle.catalogue.specs.CataFault.{IsRefusal};
+ghost use Rattle.catalogue.specs.Cells.{cells_left};
+ghost use Rattle.cell_core.specs.Entry.{key_cmp};
+ghost use Rattle.catalogue.specs.Entries.{Agree, Entries, IsAboveAll, joined};
+ghost use Rattle.catalogue.specs.Equality.{seen};
 ghost use Rattle.site_docs.specs.ReadsAs.{IsSiteText};
 ghost use Rattle.site_docs.specs.RowsDraft.{HoldsRows};
 ghost use Rattle.site_docs.specs.Sink.{IsLabelRef, IsRowOf, entry_of};

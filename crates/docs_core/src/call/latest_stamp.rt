@@ -2,8 +2,8 @@
 ghost use Rattle.std.specs.Prelude.{◌≡◌, MatchResult, None, Some};
 ghost use Rattle.cell_core.specs.Cell.{joined_stamps};
 ghost use Rattle.cell_core.specs.Keyed.{joined_if_both};
-ghost use Rattle.cata_core.specs.Entries.{Entries};
-ghost use Rattle.cata_core.specs.Latest.{latest_of};
+ghost use Rattle.catalogue.specs.Entries.{Entries};
+ghost use Rattle.catalogue.specs.Latest.{latest_of};
 ghost use Rattle.json_docs.specs.Checks.{OrMemory};
 ghost use Rattle.row_docs.specs.Reading.{IsOfDocument, no_memory};
 ghost use Rattle.site_docs.specs.ReadsAs.{ReadsAsSite, RefusesSite};

@@ -3,7 +3,7 @@ ghost use Rattle.std.specs.Prelude.{◌≡◌, ◌+◌, ◌∷◌, ◌<◌, [], 
 ghost use Rattle.std.specs.Prelude.{length, option_map};
 ghost use Rattle.std.specs.Bool.{Decides};
 ghost use Rattle.cell_core.specs.Keyed.{IsMap};
-ghost use Rattle.cata_core.specs.Entries.{key_cmp};
+ghost use Rattle.cell_core.specs.Entry.{key_cmp};
 ghost use Rattle.map_docs.specs.LangMaps.{labels_of};
 ghost use Rattle.site_docs.specs.Sink.{texts_of};
 ghost use Rattle.docs_core.specs.Revised.{IsFirstRevised, key_of, new_of, old_of};

@@ -2,10 +2,10 @@
 ghost use Rattle.std.specs.Prelude.{◌≡◌, ◌⊎◌, option_map, IfErr, IfOk, MatchResult, OnErr};
 ghost use Rattle.std.specs.FinMap.Entries.{put};
 ghost use Rattle.cell_core.specs.Stamp.{IsNext, NoNext};
-ghost use Rattle.cata_core.specs.Entries.{key_cmp};
-ghost use Rattle.cata_core.specs.Latest.{latest_of};
+ghost use Rattle.cell_core.specs.Entry.{key_cmp};
+ghost use Rattle.catalogue.specs.Latest.{latest_of};
 ghost use Rattle.cata_core.specs.Site.{RefusesEdit, SiteState};
-ghost use Rattle.cata_core.specs.declared.cata_fault.CataFault.TheVariants.{ClockSpent};
+ghost use Rattle.catalogue.specs.declared.cata_fault.CataFault.TheVariants.{ClockSpent};
 ghost use Rattle.json_docs.specs.Checks.{OrMemory};
 ghost use Rattle.row_docs.specs.Reading.{IsOfDocument, no_memory};
 ghost use Rattle.site_docs.specs.ReadsAs.{ReadsAsSite, RefusesSite};

@@ -2,8 +2,8 @@
 ghost use Rattle.std.specs.Prelude.{◌≡◌, ◌++◌, ◌∷◌, [], ℕ, IfOk, IfSome, List, Option};
 ghost use Rattle.std.specs.declared.cmp.Ordering.TheVariants.{Equal};
 ghost use Rattle.cell_core.specs.declared.stamp.Stamp.{Stamp};
-ghost use Rattle.cata_core.specs.Entries.{Entries, IsAboveAll};
-ghost use Rattle.cata_core.specs.Latest.{latest_of};
+ghost use Rattle.catalogue.specs.Entries.{Entries, IsAboveAll};
+ghost use Rattle.catalogue.specs.Latest.{latest_of};
 ghost use Rattle.site_docs.specs.ReadsAs.{IsSiteText, ReadsAsSite};
 ghost use Rattle.site_docs.specs.WrittenRows.{HasRead, current_of};
 ghost use Rattle.docs_core.specs.Imported.{puts_of};

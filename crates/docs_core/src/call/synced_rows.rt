@@ -3,7 +3,7 @@ ghost use Rattle.std.specs.Prelude.{◌≡◌, ◌≢◌, ◌<◌, ◌++◌, ◌
 ghost use Rattle.std.specs.Prelude.{IsTrue, length};
 ghost use Rattle.std.specs.declared.cmp.Ordering.TheVariants.{Equal, Less};
 ghost use Rattle.cell_core.specs.Cell.{AgreeCells, joined_cells};
-ghost use Rattle.cata_core.specs.Entries.{Agree, Entries, IsAboveAll, joined};
+ghost use Rattle.catalogue.specs.Entries.{Agree, Entries, IsAboveAll, joined};
 ghost use Rattle.cata_core.specs.Site.{SiteState};
 ghost use Rattle.site_docs.specs.ReadsAs.{IsSiteText, ReadsAsSite};
 ghost use Rattle.site_docs.specs.RowsDraft.{HoldsRows};
@@ -12,7 +12,7 @@ ghost use Rattle.site_docs.specs.WrittenRows.{HasRead, IsRowText, current_of, le
 ghost use Rattle.site_docs.specs.WrittenRows.{entry_of as row_entry};
 ghost use Rattle.docs_core.specs.SyncedRows.{HoldsSynced, IsSyncedAll, IsSyncedBefore, IsSyncedTo};
 ghost use Rattle.docs_core.specs.SyncedRows.{order_to};
-ghost use Rattle.docs_core.specs.TimeLimits.{AreInTime};
+ghost use Rattle.site_docs.specs.RowsInTime.{AreInTime};
 
 use cell_core::{Key, MessageId, SiteName};
 use json_docs::Doc;

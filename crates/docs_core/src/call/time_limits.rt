@@ -1,22 +1,23 @@
 //! Deltas and sites of others, taken only where no time of theirs is after a limit.
 ghost use Rattle.std.specs.Prelude.{◌≡◌, ◌≢◌, ◌^◌, ◌<◌, length, IfErr, IfSome, MatchOption};
 ghost use Rattle.std.specs.Prelude.{MatchResult, OnOk, Some};
-ghost use Rattle.cata_core.specs.declared.cata_fault.CataFault.TheVariants.{NotForMe};
+ghost use Rattle.catalogue.specs.declared.cata_fault.CataFault.TheVariants.{NotForMe};
 ghost use Rattle.json_docs.specs.Checks.{OrMemory};
 ghost use Rattle.row_docs.specs.Reading.{IsOfDocument, no_memory};
 ghost use Rattle.site_docs.specs.ReadsAs.{RefusesSite};
-ghost use Rattle.docs_core.specs.TimeLimits.{AreInTime, AreSyncedUntil, IsFirstAhead, IsTakenUntil};
-ghost use Rattle.docs_core.specs.TimeLimits.{IsTimeAhead, ReadsInTime, RefusesDeltaUntil};
+ghost use Rattle.docs_core.specs.TimeLimits.{AreSyncedUntil, IsTakenUntil};
+ghost use Rattle.site_docs.specs.RowsInTime.{AreInTime, IsFirstAhead};
+ghost use Rattle.docs_core.specs.TimeLimits.{ReadsInTime, RefusesDeltaUntil};
+ghost use Rattle.site_docs.specs.RowsInTime.{IsTimeAhead};
 ghost use Rattle.docs_core.specs.TimeLimits.{RefusesSyncUntil, RefusesTakingUntil};
 
 use crate::call::joined_rows::JoinedRows;
-use crate::call::rows_in_time::RowsInTime;
 use crate::call::sites::first_refusal;
 use crate::call::synced_rows::SyncedRows;
 use cata_core::{CataFault, Catalogue, Delta};
 use cell_core::SiteName;
 use json_docs::{Doc, DocCause, DocFault};
-use site_docs::{delta_at, show_document, site_at};
+use site_docs::{RowsInTime, delta_at, show_document, site_at};
 use std::alloc::Global;
 
 /// The document of the site after it took the delta, as [`take_document`](crate::take_document)

@@ -3,9 +3,10 @@ ghost use Rattle.std.specs.Prelude.{◌≡◌, ◌++◌, [], ℕ, IfErr, IfSome,
 ghost use Rattle.std.specs.Prelude.{MatchResult, OnErr, OnOk, Option};
 ghost use Rattle.cell_core.specs.Keyed.{IsMap};
 ghost use Rattle.cell_core.specs.declared.stamp.Stamp.{Stamp};
-ghost use Rattle.cata_core.specs.Entries.{Entries, key_cmp};
-ghost use Rattle.cata_core.specs.Latest.{latest_of};
-ghost use Rattle.cata_core.specs.declared.cata_fault.CataFault.TheVariants.{ClockSpent, NoMemory};
+ghost use Rattle.cell_core.specs.Entry.{key_cmp};
+ghost use Rattle.catalogue.specs.Entries.{Entries};
+ghost use Rattle.catalogue.specs.Latest.{latest_of};
+ghost use Rattle.catalogue.specs.declared.cata_fault.CataFault.TheVariants.{ClockSpent, NoMemory};
 ghost use Rattle.json_docs.specs.Checks.{OrMemory};
 ghost use Rattle.row_docs.specs.Reading.{no_memory};
 ghost use Rattle.site_docs.specs.ReadsAs.{IsSiteText, ReadsAsSite};

@@ -1,6 +1,6 @@
 //! Which range matches which tag.
 use super::columns;
-use lang_core::{LangFault, PackedTag, Range, Tag};
+use lang_core::{LangFault, Range, Tag};
 use std::alloc::Global;
 use std::test::Fail;
 
@@ -20,12 +20,10 @@ de-*|de de-DE|true
 *-de|de-de sr-Latn-DE|true
 en-bbb|en-a-bbb|false";
 
-/// Whether the range matches the tag, and whether it matches it packed.
-fn are_extended_matches(alloc: Global, range: &str, tag: &str) -> Result<(bool, bool), LangFault> {
+/// Whether the range matches the tag.
+fn is_extended_match(alloc: Global, range: &str, tag: &str) -> Result<bool, LangFault> {
     let range = Range::parse_extended(alloc, range.as_bytes())?;
-    let tag = Tag::parse(alloc, tag.as_bytes())?;
-    let packed = PackedTag::new(&tag);
-    Ok((range.matches_extended(&tag), range.matches_packed(&packed)))
+    Ok(range.matches_extended(&Tag::parse(alloc, tag.as_bytes())?))
 }
 
 #[test]
@@ -33,9 +31,8 @@ fn extended(rt: HostRuntime) -> Result<(), Fail> {
     for row in EXTENDED.lines() {
         let (range, tags, expected, _) = columns(row);
         for tag in tags.split_whitespace() {
-            let (is_match, is_packed_match) = are_extended_matches(rt.alloc(), range, tag)?;
+            let is_match = is_extended_match(rt.alloc(), range, tag)?;
             assert_eq!(rt; is_match, expected == "true", "{row}: {tag}");
-            assert_eq!(rt; is_packed_match, expected == "true", "{row}: {tag}, packed");
         }
     }
     Ok(())

@@ -5,7 +5,7 @@ ghost use Rattle.json.specs.Token.{begin_object, end_object, begin_array, end_ar
 ghost use Rattle.json.specs.Token.{string};
 ghost use Rattle.cell_core.specs.SiteName.{IsSiteName};
 ghost use Rattle.cata_core.specs.Delta.{Stamps};
-ghost use Rattle.cata_core.specs.Entries.{Entries};
+ghost use Rattle.catalogue.specs.Entries.{Entries};
 ghost use Rattle.row_docs.specs.Envelope.{name_tokens, version_tokens};
 ghost use Rattle.row_docs.specs.Texts.{Adds};
 ghost use Rattle.site_docs.specs.Envelope.{IsFront, IsStampsFront, cells_opening, end_text};

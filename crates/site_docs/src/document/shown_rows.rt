@@ -3,7 +3,7 @@ ghost use Rattle.std.specs.Prelude.{◌≡◌, ◌++◌, ◌∷◌, [], IfSome, 
 ghost use Rattle.std.specs.Bool.{Decides};
 ghost use Rattle.json_docs.specs.Checks.{OrMemory};
 ghost use Rattle.json_docs.specs.declared.fault.DocCause.TheVariants.{NoMemory};
-ghost use Rattle.cata_core.specs.Entries.{Entries, IsAboveAll};
+ghost use Rattle.catalogue.specs.Entries.{Entries, IsAboveAll};
 ghost use Rattle.row_docs.specs.Fields.{IsAfter};
 ghost use Rattle.row_docs.specs.Rising.{cell_checks};
 ghost use Rattle.site_docs.specs.ShownRows.{HoldsShown, key_of};

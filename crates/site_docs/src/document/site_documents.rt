@@ -3,7 +3,7 @@ ghost use Rattle.std.specs.Prelude.{◌≡◌, Some, MatchResult, IfOk, IfErr};
 ghost use Rattle.serde_json.specs.Data.{Data};
 ghost use Rattle.json_docs.specs.Checks.{AllPass, AreJson, FirstFails, IsRefusal, OrMemory};
 ghost use Rattle.json_docs.specs.declared.fault.DocCause.TheVariants.{NoMemory};
-ghost use Rattle.cata_core.specs.Entries.{Entries};
+ghost use Rattle.catalogue.specs.Entries.{Entries};
 ghost use Rattle.row_docs.specs.Headers.{IsSubject, rows_in, version_of};
 ghost use Rattle.row_docs.specs.Rising.{MakesEntries, cell_checks, entry_in};
 ghost use Rattle.site_docs.specs.ReadsAs.{ReadsAsDelta, ReadsAsSite, ReadsAsSummary, RefusesDelta};

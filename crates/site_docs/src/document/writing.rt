@@ -1,7 +1,7 @@
 //! The documents of sites, deltas and summaries, written.
 ghost use Rattle.std.specs.Prelude.{◌≡◌, IfOk};
 ghost use Rattle.cell_core.specs.Keyed.{IsMap};
-ghost use Rattle.cata_core.specs.Entries.{key_cmp};
+ghost use Rattle.cell_core.specs.Entry.{key_cmp};
 ghost use Rattle.site_docs.specs.Documents.{delta_text, site_text, summary_text};
 ghost use Rattle.site_docs.specs.ReadsAs.{ReadsAsDelta, ReadsAsSite, ReadsAsSummary};
 ghost use Rattle.site_docs.specs.RowsDraft.{HoldsRows};

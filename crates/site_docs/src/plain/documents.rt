@@ -2,18 +2,19 @@
 ghost use Rattle.std.specs.Prelude.{◌≡◌, ◌++◌, [], List, ℕ, IfSome, IsTrue, decimal};
 ghost use Rattle.cell_core.specs.Keyed.{IsMap};
 ghost use Rattle.cell_core.specs.SiteName.{IsSiteName};
-ghost use Rattle.cata_core.specs.Entries.{Entries, key_cmp};
+ghost use Rattle.cell_core.specs.Entry.{key_cmp};
+ghost use Rattle.catalogue.specs.Entries.{Entries};
 ghost use Rattle.row_docs.specs.Kinds.{kind_text, subject_of};
 ghost use Rattle.site_docs.specs.Plain.{IsEnd, IsPlainText, last_members};
 ghost use Rattle.site_docs.specs.ReadsAs.{ReadsAsSite};
 
 use crate::plain::rows::next_cells;
-use crate::plain::texts::{after, after_text, member_after, text_after};
 use crate::sink::CellSink;
 use cata_core::Catalogue;
 use cell_core::SiteName;
 use json_docs::text_in;
 use row_docs::Kind;
+use row_docs::plain_texts::{after, after_text, member_after, text_after};
 use std::alloc::Global;
 
 /// The name and the cells of a document of this kind, where the bytes are the text that is written

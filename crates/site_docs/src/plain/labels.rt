@@ -7,9 +7,9 @@ ghost use Rattle.row_docs.specs.Fields.{IsLabelText};
 ghost use Rattle.row_docs.specs.Values.{label_value, texts_value};
 ghost use Rattle.site_docs.specs.Sink.{IsLabelRef, texts_of};
 
-use crate::plain::texts::{after, after_byte, escaped_text, text_after, text_before_quote};
 use crate::sink::LabelRef;
 use cell_core::Label;
+use row_docs::plain_texts::{after, after_byte, escaped_text, text_after, text_before_quote};
 use std::alloc::Global;
 
 /// The most bytes of a text of a label.

@@ -8,7 +8,8 @@ ghost use Rattle.json.specs.Print.{quoted};
 ghost use Rattle.serde_json.specs.Written.{compact_text};
 ghost use Rattle.cell_core.specs.MessageId.{IsMessageId};
 ghost use Rattle.cell_core.specs.SiteName.{IsSiteName};
-ghost use Rattle.cata_core.specs.Entries.{Entries, Entry, IsAboveAll, text_cmp};
+ghost use Rattle.cell_core.specs.Entry.{text_cmp};
+ghost use Rattle.catalogue.specs.Entries.{Entries, Entry, IsAboveAll};
 ghost use Rattle.row_docs.specs.Entries.{entry_value};
 ghost use Rattle.row_docs.specs.Fields.{IsAfter, IsLabelText, stamp_of};
 ghost use Rattle.row_docs.specs.Valid.{AreKeptCells, IsKeptCell};
@@ -21,10 +22,10 @@ ghost use Rattle.site_docs.specs.Unread.{RefusesSpelling};
 
 use crate::plain::labels::next_label;
 use crate::plain::languages::KnownLanguages;
-use crate::plain::texts::{after, after_byte, escaped_text, number_before, text_before_quote};
 use crate::plain::unread::Unread;
 use crate::sink::{CellRef, CellSink, LabelRef, RowText};
 use cell_core::{CellFault, Key, MessageId, SiteName, Stamp};
+use row_docs::plain_texts::{after, after_byte, escaped_text, number_before, text_before_quote};
 use std::alloc::Global;
 use std::cmp::Ordering;
 

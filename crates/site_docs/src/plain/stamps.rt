@@ -1,7 +1,7 @@
 //! Documents of summaries, and their rows.
 ghost use Rattle.std.specs.Prelude.{◌≡◌, ◌++◌, ◌∷◌, [], IfSome, Some};
 ghost use Rattle.serde_json.specs.Written.{compact_text};
-ghost use Rattle.cata_core.specs.Entries.{IsAboveAll};
+ghost use Rattle.catalogue.specs.Entries.{IsAboveAll};
 ghost use Rattle.row_docs.specs.Entries.{stamped_value};
 ghost use Rattle.row_docs.specs.Fields.{IsAfter};
 ghost use Rattle.row_docs.specs.Valid.{AreKeptStamps, IsKeptStamp};
@@ -11,10 +11,10 @@ ghost use Rattle.site_docs.specs.ReadsAs.{ReadsAsSummary};
 
 use crate::plain::documents::is_version;
 use crate::plain::rows::{Spelled, next_front};
-use crate::plain::texts::{after, after_byte, after_text, member_after, text_after};
 use cata_core::Summary;
 use cell_core::{Key, SiteName};
 use json_docs::text_in;
+use row_docs::plain_texts::{after, after_byte, after_text, member_after, text_after};
 use std::alloc::Global;
 
 /// The summary of a document, where the bytes are the text that is written for it, with its last

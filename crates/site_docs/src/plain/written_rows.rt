@@ -2,7 +2,7 @@
 ghost use Rattle.std.specs.Prelude.{◌≡◌, ◌<◌, ◌++◌, ◌∷◌, [], List, ℕ, IfSome, MatchOption};
 ghost use Rattle.std.specs.Prelude.{Some, codes, length};
 ghost use Rattle.serde_json.specs.Written.{compact_text};
-ghost use Rattle.cata_core.specs.Entries.{Entries};
+ghost use Rattle.catalogue.specs.Entries.{Entries};
 ghost use Rattle.row_docs.specs.Entries.{entry_value};
 ghost use Rattle.row_docs.specs.Fields.{IsAfter};
 ghost use Rattle.site_docs.specs.Plain.{IsEnd, last_members};
@@ -13,12 +13,12 @@ ghost use Rattle.site_docs.specs.WrittenRows.{entry_of, left_in};
 
 use crate::plain::documents::last_name;
 use crate::plain::rows::{Spelled, next_front, row_end};
-use crate::plain::texts::{after_byte, member_after};
 use crate::sink::LabelRef;
 use cell_core::{MessageId, SiteName, Stamp};
 use json_docs::text_in;
 use lang_core::Lang;
 use row_docs::Kind;
+use row_docs::plain_texts::{after_byte, member_after};
 use std::alloc::Global;
 
 /// The rows of a site's document, read one after another, where the document is as it is written,

@@ -1,7 +1,8 @@
 use Rattle.std.proofs.Common.{[], ◌∷◌, ◌++◌, sym, ◌∙◌, subst}
-use Rattle.cata_core.specs.Cells.{cells_left}
+use Rattle.catalogue.specs.Cells.{cells_left}
 use Rattle.cata_core.specs.Delta.{is_missing}
-use Rattle.cata_core.specs.Entries.{EntryKey, Entries, IsAboveAll}
+use Rattle.cell_core.specs.Entry.{EntryKey}
+use Rattle.catalogue.specs.Entries.{Entries, IsAboveAll}
 use Rattle.cata_core.specs.Summary.{stamps_of}
 use Rattle.cata_core.proofs.MissingCellsLemmas.{AreMissingSoFar, sent_above, missing_more}
 use Rattle.cata_core.proofs.MissingCellsLemmas.{missing_same}

@@ -1,4 +1,4 @@
-use Rattle.cata_core.specs.Cells.{cells_left}
+use Rattle.catalogue.specs.Cells.{cells_left}
 use Rattle.cata_core.specs.Summary.{stamps_of}
 use Rattle.cata_core.proofs.MissingCellsLemmas.{AreMissingSoFar}
 use Rattle.cata_core.proofs.delta.missing_cells.Given as goal

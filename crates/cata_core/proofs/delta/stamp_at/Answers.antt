@@ -5,9 +5,9 @@ use Rattle.std.proofs.lemmas.List.{nil_from_length}
 use Rattle.std.specs.FinMap.Entries.{find, is_sorted, below_all}
 use Rattle.cell_core.specs.Keyed.{IsMap}
 use Rattle.cata_core.specs.declared.summary.SummaryEntry.{SummaryEntry}
-use Rattle.cata_core.specs.Entries.{EntryKey, key_cmp}
+use Rattle.cell_core.specs.Entry.{EntryKey, key_cmp}
 use Rattle.cata_core.specs.Summary.{stamps_of}
-use Rattle.cata_core.proofs.Basics.{second_part}
+use Rattle.cell_core.proofs.Basics.{second_part}
 use Rattle.cata_core.proofs.SummaryListsLemmas.{passed, passed_found, first_found, first_absent}
 use Rattle.cata_core.proofs.SummaryListsLemmas.{not_greater, not_greater_self}
 use Rattle.cata_core.proofs.delta.stamp_at.Goals as goal

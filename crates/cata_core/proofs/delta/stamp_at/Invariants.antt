@@ -2,7 +2,7 @@ use Rattle.std.proofs.Common.{◌≡◌, ◌≢◌, length}
 use Rattle.std.specs.declared.cmp.Ordering.TheVariants.{Greater}
 use Rattle.std.specs.FinMap.Entries.{find}
 use Rattle.cell_core.specs.Keyed.{IsMap}
-use Rattle.cata_core.specs.Entries.{EntryKey, key_cmp}
+use Rattle.cell_core.specs.Entry.{EntryKey, key_cmp}
 use Rattle.cata_core.specs.Summary.{stamps_of}
 use Rattle.cata_core.proofs.delta.stamp_at.Given as goal
 

@@ -1,10 +1,10 @@
 use Rattle.std.proofs.Common.{◌≡◌, subst}
 use Rattle.cell_core.specs.Cell.{joined_stamps}
 use Rattle.cell_core.specs.Keyed.{joined_if_both}
-use Rattle.cata_core.specs.Cells.{cells_left}
-use Rattle.cata_core.specs.Entries.{Entries}
-use Rattle.cata_core.specs.Latest.{latest_of}
-use Rattle.cata_core.proofs.LatestLemmas.{latest_next}
+use Rattle.catalogue.specs.Cells.{cells_left}
+use Rattle.catalogue.specs.Entries.{Entries}
+use Rattle.catalogue.specs.Latest.{latest_of}
+use Rattle.catalogue.proofs.LatestLemmas.{latest_next}
 use Rattle.cata_core.proofs.latest.latest_of.Goals as goal
 
 pub loop-cell-preserved : goal.loop-cell-preserved

@@ -1,4 +1,4 @@
-use Rattle.cata_core.proofs.MessagesLemmas.{a_message_answers, no_message_answers}
+use Rattle.catalogue.proofs.MessagesLemmas.{a_message_answers, no_message_answers}
 use Rattle.cata_core.proofs.laws.messages_answer_as_the_catalogue.Goals as goal
 
 pub returns-clause-held : goal.returns-clause-held

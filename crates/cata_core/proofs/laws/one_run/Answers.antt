@@ -1,8 +1,8 @@
 use Rattle.std.proofs.Common.{[]}
-use Rattle.cata_core.specs.Edits.{catalogue_of}
+use Rattle.catalogue.specs.Edits.{catalogue_of}
 use Rattle.cata_core.specs.Taken.{taken}
 use Rattle.cata_core.specs.Held.{held}
-use Rattle.cata_core.proofs.UniqueAnswersLemmas.{one_by}
+use Rattle.cata_core.proofs.AnswerLemmas.{one_by}
 use Rattle.cata_core.proofs.laws.one_run.Goals as goal
 
 pub returns-clause-held : goal.returns-clause-held

@@ -1,6 +1,6 @@
 use Rattle.std.proofs.Common.{◌∙◌, ap, arith, subst, sym, length, length-append, ◌++◌, ◌∷◌, []}
 use Rattle.std.proofs.lemmas.Result.{err_from_is_err_and}
-use Rattle.cata_core.specs.Entries.{Entries}
+use Rattle.catalogue.specs.Entries.{Entries}
 use Rattle.cata_core.specs.Answer.{AreHeldAnswers, AreAnswers}
 use Rattle.cata_core.specs.World.{at_sites}
 use Rattle.cata_core.proofs.MachineLemmas.{first_fault}

@@ -1,7 +1,7 @@
 use Rattle.std.proofs.Common.{◌≡◌, Some, rules}
 use Rattle.std.specs.FinMap.Entries.{find}
 use Rattle.std.proofs.lemmas.Result.{on_ok_weaker}
-use Rattle.cata_core.specs.Entries.{EntryKey, key_cmp}
+use Rattle.cell_core.specs.Entry.{EntryKey, key_cmp}
 use Rattle.front_core.proofs.ArrivalsLemmas.{edit_added}
 use Rattle.front_core.proofs.arrivals.add_cell.Goals as goal
 

@@ -1,5 +1,5 @@
 use Rattle.cata_core.specs.Delta.{IsPart}
-use Rattle.cata_core.specs.Entries.{EntryKey}
+use Rattle.cell_core.specs.Entry.{EntryKey}
 use Rattle.front_core.proofs.ArrivalsLemmas.{IsToKnow}
 use Rattle.front_core.proofs.arrivals.add_changed.Given as goal
 

@@ -1,7 +1,7 @@
 use Rattle.std.proofs.Common.{◌≡◌, rules, subst, sym}
 use Rattle.std.specs.Prelude.{IfSome}
 use Rattle.cell_core.specs.Keyed.{IsMap}
-use Rattle.cata_core.specs.Entries.{key_cmp}
+use Rattle.cell_core.specs.Entry.{key_cmp}
 use Rattle.cata_core.specs.Site.{SiteState}
 use Rattle.front_core.specs.OpenSite.{IsJoined}
 use Rattle.front_core.proofs.editing.make_apart.Goals as goal

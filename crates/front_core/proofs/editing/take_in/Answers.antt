@@ -1,5 +1,5 @@
 use Rattle.std.proofs.Common.{◌≢◌, inl, rules}
-use Rattle.cata_core.specs.declared.cata_fault.CataFault.TheVariants as cata
+use Rattle.catalogue.specs.declared.cata_fault.CataFault.TheVariants as cata
 use Rattle.front_core.proofs.editing.take_in.Goals as goal
 
 -- the delta is for another site

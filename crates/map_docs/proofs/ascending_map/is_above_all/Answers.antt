@@ -1,6 +1,6 @@
 use Rattle.std.proofs.Common.{◌≡◌, ◌∙◌, ◌-◌, length, sym, subst, Some}
 use Rattle.std.specs.Prelude.{slice_get}
-use Rattle.cata_core.proofs.Basics.{less_of}
+use Rattle.lang_core.proofs.Basics.{less_of}
 use Rattle.map_docs.proofs.AscendingMapLemmas.{above_last}
 use Rattle.map_docs.proofs.ascending_map.is_above_all.Goals as goal
 

@@ -3,7 +3,7 @@ use Rattle.std.proofs.lemmas.Result.{err_from_is_err_and}
 use Rattle.std.specs.BTreeMap.{is_at}
 use Rattle.std.specs.Map.{lookup}
 use Rattle.std.specs.Prelude.{is_some}
-use Rattle.cata_core.specs.Entries.{text_cmp}
+use Rattle.cell_core.specs.Entry.{text_cmp}
 use Rattle.cell_core.specs.Label.{texts_of}
 use Rattle.map_docs.specs.LangMapRows.{Strings}
 use Rattle.map_docs.specs.LangMapRowsSeen.{HoldsKeys, strings_seen}

@@ -1,7 +1,7 @@
 use Rattle.std.proofs.Common.{◌∙◌, ◌++◌, List, ℕ, ap, string_bytes, subst, sym}
 use Rattle.cell_core.specs.Keyed.{IsMap}
-use Rattle.cata_core.specs.Entries.{key_cmp}
-use Rattle.cata_core.specs.Flat.{under}
+use Rattle.cell_core.specs.Entry.{key_cmp}
+use Rattle.catalogue.specs.Flat.{under}
 use Rattle.map_docs.specs.LangMapRowsSeen.{keys_in_seen, keys_seen, live}
 use Rattle.map_docs.proofs.LangMapLabelsLemmas.{after_IsMap, live_IsMap, message_added}
 use Rattle.map_docs.proofs.labels.add_message.Goals as goal

@@ -1,7 +1,8 @@
 use Rattle.std.proofs.Common.{◌≡◌, ◌∙◌, ℕ, List, Some, ◌∷◌, ◌++◌, ap, sym, subst}
 use Rattle.cell_core.specs.Keyed.{IsMap}
-use Rattle.cata_core.specs.Entries.{IsAboveAll, key_cmp}
-use Rattle.cata_core.specs.Flat.{under}
+use Rattle.cell_core.specs.Entry.{key_cmp}
+use Rattle.catalogue.specs.Entries.{IsAboveAll}
+use Rattle.catalogue.specs.Flat.{under}
 use Rattle.map_docs.specs.LangMapRowsSeen.{Found, live}
 use Rattle.map_docs.proofs.LangMapLabelsLemmas.{above_front}
 use Rattle.map_docs.proofs.labels.push_languages.Goals as goal

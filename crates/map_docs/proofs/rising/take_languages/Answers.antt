@@ -5,8 +5,9 @@ use Rattle.json.specs.Json.{read_key, value}
 use Rattle.json.proofs.Grammar.{read_key-shorter}
 use Rattle.serde_json.specs.Data.{no_members, put}
 use Rattle.lang_core.specs.Lang.{SpellsLang}
-use Rattle.cata_core.specs.Entries.{IsAboveAll, text_cmp}
-use Rattle.cata_core.specs.Flat.{under}
+use Rattle.cell_core.specs.Entry.{text_cmp}
+use Rattle.catalogue.specs.Entries.{IsAboveAll}
+use Rattle.catalogue.specs.Flat.{under}
 use Rattle.json_docs.proofs.ReadingLemmas.{member_read, members_over}
 use Rattle.map_docs.specs.LangMapLabels.{languages_of}
 use Rattle.map_docs.specs.LangMapRows.{Keys, keys_of, strings_in}

@@ -4,7 +4,7 @@ use Rattle.std.specs.declared.cmp.Ordering.TheVariants.{Less}
 use Rattle.json.specs.Json.{read_key, value}
 use Rattle.json.proofs.Grammar.{read_key-shorter}
 use Rattle.serde_json.specs.Data.{no_members, object, put}
-use Rattle.cata_core.specs.Entries.{text_cmp}
+use Rattle.cell_core.specs.Entry.{text_cmp}
 use Rattle.json_docs.proofs.ReadingLemmas.{member_read, members_over}
 use Rattle.map_docs.specs.LangMapLabels.{rows_labels}
 use Rattle.map_docs.specs.LangMapRows.{Rows, keys_in, keys_of, message_rows}

@@ -2,7 +2,7 @@ use Rattle.std.proofs.Common.{Some, None, sym, ◌∙◌}
 use Rattle.std.proofs.lemmas.List.Elements.{All-nil}
 use Rattle.lang_core.specs.Text.{pieces}
 use Rattle.nego_core.specs.Choosing.{IsOpen}
-use Rattle.nego_core.proofs.Basics.{false_true}
+use Rattle.list_core.proofs.Basics.{false_true}
 use Rattle.nego_core.proofs.LookupCandidatesLemmas.{first_here, first_later}
 use Rattle.nego_core.proofs.choosing.first_of.Goals as goal
 

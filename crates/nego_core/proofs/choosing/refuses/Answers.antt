@@ -1,5 +1,5 @@
-use Rattle.nego_core.specs.Deciding.{IsRefusedLang}
-use Rattle.nego_core.specs.declared.scheme.Scheme.TheVariants as scheme
+use Rattle.list_core.specs.Deciding.{IsRefusedLang}
+use Rattle.list_core.specs.declared.scheme.Scheme.TheVariants as scheme
 use Rattle.nego_core.proofs.ChoosingLemmas.{none_refused}
 use Rattle.nego_core.proofs.NothingRefused.{no_lang_refused}
 use Rattle.nego_core.proofs.choosing.refuses.Goals as goal

@@ -1,6 +1,6 @@
 use Rattle.std.proofs.Common.{Some, None, sym, ◌∙◌}
 use Rattle.nego_core.specs.Shortlist.{IsOneOf}
-use Rattle.nego_core.proofs.Basics.{false_true}
+use Rattle.list_core.proofs.Basics.{false_true}
 use Rattle.nego_core.proofs.ShortlistLemmas.{lang_here, lang_passed, langs_over}
 use Rattle.nego_core.proofs.shortlist.first_among.Goals as goal
 

@@ -2,7 +2,7 @@ use Rattle.std.proofs.Common.{◌≡◌, ◌<◌, sym, ◌∙◌, ap, arith, inl
 use Rattle.std.proofs.lemmas.Option.{slice_get_past}
 use Rattle.lang_core.specs.Truncations.{truncations_left}
 use Rattle.nego_core.specs.Filtering.{texts_of}
-use Rattle.nego_core.proofs.Basics.{false_true, same_default}
+use Rattle.list_core.proofs.Basics.{false_true, same_default}
 use Rattle.nego_core.specs.declared.shortlist.MatchedLang.{MatchedLang}
 use Rattle.nego_core.proofs.RankingLemmas.{AtCandidates, Pieces}
 use Rattle.nego_core.proofs.RankingLemmas.{candidate_passed, candidate_taken, candidate_there}

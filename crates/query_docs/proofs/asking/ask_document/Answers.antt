@@ -1,5 +1,5 @@
 use Rattle.std.proofs.Common.{subst}
-use Rattle.cata_core.specs.Entries.{Entries}
+use Rattle.catalogue.specs.Entries.{Entries}
 use Rattle.query_docs.specs.Asks.{Answers}
 use Rattle.query_docs.proofs.OneMessageLemmas.{same_answers}
 use Rattle.query_docs.proofs.asking.ask_document.Goals as goal

@@ -2,9 +2,9 @@ use Rattle.std.proofs.Common.{◌∙◌, ap, subst, sym}
 use Rattle.std.specs.Prelude.{List, option_map}
 use Rattle.std.proofs.lemmas.Result.{IfOk-weaker}
 use Rattle.nego_core.specs.Filtering.{texts_of}
-use Rattle.cata_core.specs.Reply.{reply_of}
-use Rattle.cata_core.specs.LiveMessages.{LiveMessage}
-use Rattle.cata_core.specs.Messages.{messages_left}
+use Rattle.catalogue.specs.Reply.{reply_of}
+use Rattle.catalogue.specs.LiveMessages.{LiveMessage}
+use Rattle.catalogue.specs.Messages.{messages_left}
 use Rattle.query_docs.proofs.BundledLemmas.{AreLive, IsBundling, are_live, bundling_first}
 use Rattle.query_docs.proofs.BundledLemmas.{bundling_found, bundling_last, bundling_passed}
 use Rattle.query_docs.proofs.BundledLemmas.{shortlisted}

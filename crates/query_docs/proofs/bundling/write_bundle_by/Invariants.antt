@@ -1,5 +1,5 @@
 use Rattle.std.specs.Prelude.{option_map}
-use Rattle.cata_core.specs.Messages.{messages_left}
+use Rattle.catalogue.specs.Messages.{messages_left}
 use Rattle.query_docs.proofs.BundledLemmas.{AreLive, IsBundling}
 use Rattle.query_docs.proofs.bundling.write_bundle_by.Given as goal
 

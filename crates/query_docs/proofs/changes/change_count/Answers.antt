@@ -1,6 +1,6 @@
 use Rattle.std.proofs.Common.{ap, subst, sym}
-use Rattle.cata_core.specs.Changes.{Changed}
-use Rattle.cata_core.specs.ChangesLeft.{changes_left}
+use Rattle.catalogue.specs.Changes.{Changed}
+use Rattle.catalogue.specs.ChangesLeft.{changes_left}
 use Rattle.query_docs.proofs.ChangedLemmas.{IsCounting, counting_first}
 use Rattle.query_docs.proofs.changes.change_count.Goals as goal
 

@@ -1,4 +1,4 @@
-use Rattle.cata_core.specs.ChangesLeft.{changes_left}
+use Rattle.catalogue.specs.ChangesLeft.{changes_left}
 use Rattle.query_docs.proofs.ChangedLemmas.{IsCounting}
 use Rattle.query_docs.proofs.changes.change_count.Given as goal
 

@@ -1,5 +1,5 @@
 use Rattle.std.proofs.Common.{◌∙◌, ◌++◌, ap}
-use Rattle.cata_core.specs.ChangesLeft.{change_seen, changes_left}
+use Rattle.catalogue.specs.ChangesLeft.{change_seen, changes_left}
 use Rattle.query_docs.proofs.ChangedLemmas.{counted_any, listing_first, listing_last, listing_next}
 use Rattle.query_docs.proofs.changes.changes_lines.Goals as goal
 

@@ -1,5 +1,5 @@
-use Rattle.cata_core.specs.Changes.{AreChanges, Changed}
-use Rattle.cata_core.specs.ChangesLeft.{changes_left}
+use Rattle.catalogue.specs.Changes.{AreChanges, Changed}
+use Rattle.catalogue.specs.ChangesLeft.{changes_left}
 use Rattle.query_docs.proofs.ChangedLemmas.{IsListing}
 use Rattle.query_docs.proofs.changes.changes_lines.Given as goal
 

@@ -1,7 +1,7 @@
 use Rattle.std.proofs.Common.{◌≡◌, ◌∙◌, ◌++◌, List, ap, append_assoc, arith, length, subst}
 use Rattle.std.proofs.Common.{sym, take}
 use Rattle.std.proofs.Math.Seq.{take-length}
-use Rattle.cata_core.proofs.Basics.{append_nil}
+use Rattle.catalogue.proofs.Basics.{append_nil}
 use Rattle.map_docs.specs.LangMaps.{Labelled}
 use Rattle.query_docs.specs.ByMessage.{cell_of, cells_of}
 use Rattle.query_docs.specs.Draft.{HasWritten, labelled_by}

@@ -1,7 +1,7 @@
 use Rattle.std.proofs.Common.{◌∙◌, ◌++◌, [], ℕ, List, ap, subst, sym}
 use Rattle.nego_core.specs.WidenedChoice.{MatchEarliest}
-use Rattle.cata_core.specs.Live.{languages}
-use Rattle.cata_core.proofs.Basics.{append_nil}
+use Rattle.catalogue.specs.Live.{languages}
+use Rattle.catalogue.proofs.Basics.{append_nil}
 use Rattle.query_docs.proofs.LiveCellsLemmas.{labels_past, language_with}
 use Rattle.query_docs.proofs.live_cells.earlier_of.Goals as goal
 

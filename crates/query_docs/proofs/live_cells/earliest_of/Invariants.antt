@@ -1,6 +1,6 @@
 use Rattle.std.proofs.Common.{take}
 use Rattle.nego_core.specs.WidenedChoice.{MatchEarliest}
-use Rattle.cata_core.specs.Live.{languages}
+use Rattle.catalogue.specs.Live.{languages}
 use Rattle.query_docs.specs.LiveCells.{labels_of}
 use Rattle.query_docs.proofs.live_cells.earliest_of.Given as goal
 

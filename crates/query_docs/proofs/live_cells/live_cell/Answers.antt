@@ -3,7 +3,7 @@ use Rattle.std.proofs.lemmas.List.{drop_all}
 use Rattle.std.specs.Prelude.{is_some}
 use Rattle.std.specs.FinMap.Entries.{find}
 use Rattle.cell_core.specs.Found.{with_key}
-use Rattle.cata_core.specs.Entries.{text_cmp}
+use Rattle.cell_core.specs.Entry.{text_cmp}
 use Rattle.site_docs.specs.Sink.{IsLabelRef}
 use Rattle.query_docs.specs.LiveCells.{labels_of}
 use Rattle.query_docs.specs.declared.by_message.MessageCell.{MessageCell}

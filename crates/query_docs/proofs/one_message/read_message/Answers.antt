@@ -1,5 +1,5 @@
 use Rattle.std.proofs.Common.{◌∙◌, ap}
-use Rattle.cata_core.specs.Live.{live}
+use Rattle.catalogue.specs.Live.{live}
 use Rattle.cata_core.specs.Site.{SiteState}
 use Rattle.query_docs.proofs.OneMessageLemmas.{kept_live}
 use Rattle.query_docs.proofs.one_message.read_message.Goals as goal

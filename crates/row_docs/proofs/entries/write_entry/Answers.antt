@@ -1,7 +1,7 @@
 use Rattle.std.proofs.Common.{◌≡◌, arith, subst}
 use Rattle.std.proofs.lemmas.Result.{IfOk-weaker}
 use Rattle.std.specs.Prelude.{Some}
-use Rattle.cata_core.specs.Entries.{EntryKey}
+use Rattle.cell_core.specs.Entry.{EntryKey}
 use Rattle.lang_core.specs.Lang.{IsLang}
 use Rattle.row_docs.specs.Fields.{IsLabelText}
 use Rattle.row_docs.specs.Valid.{IsKept}

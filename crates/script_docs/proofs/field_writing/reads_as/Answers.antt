@@ -2,9 +2,9 @@ use Rattle.std.proofs.Common.{◌≡◌, ◌∙◌, Bool, ap₂, subst, sym}
 use Rattle.std.proofs.lemmas.Result.{IfOk-weaker}
 use Rattle.std.specs.Prelude.{MatchBool}
 use Rattle.std.specs.Cmp.Lexicographic.{pointwise}
-use Rattle.nego_core.specs.Field.{RefusesField}
-use Rattle.nego_core.specs.Item.{item_eq}
-use Rattle.nego_core.specs.declared.field.Malformed.TheVariants.{Refused}
+use Rattle.list_core.specs.Field.{RefusesField}
+use Rattle.list_core.specs.Item.{item_eq}
+use Rattle.list_core.specs.declared.field.Malformed.TheVariants.{Refused}
 use Rattle.script_docs.specs.StepFields.{Lists}
 use Rattle.script_docs.proofs.FieldWrittenLemmas.{lists_where_same, refused_lists_none}
 use Rattle.script_docs.proofs.field_writing.reads_as.Goals as goal

@@ -1,5 +1,5 @@
 use Rattle.std.proofs.Common.{◌≡◌, ◌∙◌, ℕ, List, subst, sym}
-use Rattle.nego_core.specs.declared.scheme.Scheme.TheVariants.{Basic}
+use Rattle.list_core.specs.declared.scheme.Scheme.TheVariants.{Basic}
 use Rattle.row_docs.specs.Texts.{Adds, value_tokens}
 use Rattle.script_docs.specs.FieldWritten.{field_text}
 use Rattle.script_docs.specs.StepFields.{Lists}

@@ -1,6 +1,6 @@
 use Rattle.std.proofs.Common.{◌∙◌, ◌++◌, [], ◌∷◌, ap, ap₂, append_assoc, refl, subst, sym}
-use Rattle.cata_core.specs.Cells.{cells_left}
-use Rattle.cata_core.specs.Entries.{Entries, Entry}
+use Rattle.catalogue.specs.Cells.{cells_left}
+use Rattle.catalogue.specs.Entries.{Entries, Entry}
 use Rattle.site_docs.proofs.ShowingLemmas.{shown_above}
 use Rattle.site_docs.proofs.showing.show_catalogue.Goals as goal
 

@@ -1,6 +1,6 @@
 use Rattle.std.proofs.Common.{◌≡◌, ◌++◌}
-use Rattle.cata_core.specs.Cells.{cells_left}
-use Rattle.cata_core.specs.Entries.{Entries}
+use Rattle.catalogue.specs.Cells.{cells_left}
+use Rattle.catalogue.specs.Entries.{Entries}
 use Rattle.site_docs.proofs.showing.show_catalogue.Given as goal
 
 -- the cells that were shown, and those that are left

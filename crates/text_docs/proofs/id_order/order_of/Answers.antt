@@ -1,5 +1,5 @@
 use Rattle.std.proofs.Common.{◌∙◌, List, ℕ, ap, sym}
-use Rattle.cata_core.specs.Entries.{text_cmp}
+use Rattle.cell_core.specs.Entry.{text_cmp}
 use Rattle.text_docs.proofs.OrderLemmas.{plain_is}
 use Rattle.text_docs.proofs.id_order.order_of.Goals as goal
 

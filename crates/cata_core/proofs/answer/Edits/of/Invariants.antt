@@ -1,5 +1,5 @@
 use Rattle.std.proofs.Common.{◌≡◌, ◌++◌}
-use Rattle.cata_core.specs.Cells.{cells_left}
+use Rattle.catalogue.specs.Cells.{cells_left}
 use Rattle.cata_core.proofs.answer.Edits.of.Given as goal
 
 abbrev pub invariant-loop-id : goal.invariant-loop-id

@@ -1,8 +1,8 @@
 use Rattle.std.proofs.Common.{◌≡◌, true, sym, ◌∙◌, subst}
 use Rattle.std.specs.Result.{is_ok}
 use Rattle.cata_core.specs.KnownLatest.{IsKnownLatest}
-use Rattle.cata_core.specs.Latest.{latest_of}
-use Rattle.cata_core.proofs.JoinedLatestLemmas.{at_ok}
+use Rattle.catalogue.specs.Latest.{latest_of}
+use Rattle.catalogue.proofs.JoinedLatestLemmas.{at_ok}
 use Rattle.cata_core.proofs.KnownLatestLemmas.{known_joined}
 use Rattle.cata_core.proofs.site.Site.merge_with.Goals as goal
 use Rattle.cata_core.proofs.site.Site.merge_with.Goals.{then-is_ok, else-is_ok}

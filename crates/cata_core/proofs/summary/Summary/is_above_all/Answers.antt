@@ -6,9 +6,10 @@ use Rattle.std.proofs.lemmas.List.{length-map}
 use Rattle.std.proofs.lemmas.Option.{slice_get-map}
 use Rattle.cell_core.specs.Keyed.{IsMap}
 use Rattle.cata_core.specs.Delta.{Stamps}
-use Rattle.cata_core.specs.Entries.{EntryKey, key_cmp, IsAboveAll}
+use Rattle.cell_core.specs.Entry.{EntryKey, key_cmp}
+use Rattle.catalogue.specs.Entries.{IsAboveAll}
 use Rattle.cata_core.specs.Summary.{SummaryState, stamps_of, entry_of}
-use Rattle.cata_core.proofs.LastKeysLemmas.{above_last}
+use Rattle.catalogue.proofs.LastKeysLemmas.{above_last}
 use Rattle.cata_core.proofs.summary.Summary.is_above_all.Goals as goal
 
 -- The key is above all keys of the summary just where it is above the last one, since they ascend.

@@ -1,5 +1,5 @@
 use Rattle.std.proofs.Common.{◌≡◌, ◌++◌}
-use Rattle.cata_core.specs.Cells.{cells_left}
+use Rattle.catalogue.specs.Cells.{cells_left}
 use Rattle.cata_core.specs.Delta.{summary_of}
 use Rattle.cata_core.specs.Summary.{stamps_of}
 use Rattle.cata_core.proofs.summary.Summary.of.Given as goal

@@ -1,8 +1,9 @@
 use Rattle.std.proofs.Common.{sym, ◌∙◌, ap, subst}
 use Rattle.cell_core.specs.Keyed.{IsMap}
-use Rattle.cata_core.specs.Entries.{key_cmp, IsAboveAll}
+use Rattle.cell_core.specs.Entry.{key_cmp}
+use Rattle.catalogue.specs.Entries.{IsAboveAll}
 use Rattle.cata_core.specs.Summary.{SummaryState, stamps_of}
-use Rattle.cata_core.proofs.BehindLemmas.{IsMap-behind}
+use Rattle.catalogue.proofs.BehindLemmas.{IsMap-behind}
 use Rattle.cata_core.proofs.SummaryListsLemmas.{entries_push}
 use Rattle.cata_core.proofs.summary.Summary.push.Goals as goal
 

@@ -1,10 +1,12 @@
 use Rattle.std.proofs.Common.{sym, ◌∙◌, ap, arith, true≢false}
 use Rattle.std.specs.Ordering.{is_lt, is_eq}
+use Rattle.lang_core.proofs.Basics.{less_of as less_from}
 use Rattle.cell_core.proofs.StampLemmas.{next_of_none, next_now, next_at_last, next_count}
-use Rattle.cell_core.proofs.StampLemmas.{next_later, IsFull, less_from, equal_from}
+use Rattle.cell_core.proofs.StampLemmas.{next_later, IsFull}
 use Rattle.cell_core.proofs.stamp.Stamp.next.Goals as goal
 use Rattle.cell_core.proofs.stamp.Stamp.next.Goals.{else-is_eq-via-then-is_eq+else-last-lt4294967295}
 use Rattle.cell_core.proofs.stamp.Stamp.next.Goals.{else-is_eq-via-else-is_eq}
+use Rattle.cell_core.proofs.Basics.{tied_order as equal_from}
 
 pub returns-in_default : goal.returns-in_default
 returns-in_default c =

@@ -1,5 +1,5 @@
 use Rattle.std.proofs.Common.{◌∙◌, ◌++◌, [], ◌∷◌, append-nil, append_assoc, ap, refl, subst, sym}
-use Rattle.cata_core.specs.Equality.{seen}
+use Rattle.catalogue.specs.Equality.{seen}
 use Rattle.site_docs.specs.RowsDraft.{HoldsRows}
 use Rattle.docs_core.specs.JoinedRows.{left_of}
 use Rattle.docs_core.proofs.call.joined_rows.write_all.Goals as goal

@@ -1,6 +1,7 @@
 use Rattle.std.proofs.Common.{◌≡◌, ◌++◌, All, length}
 use Rattle.std.specs.declared.cmp.Ordering.TheVariants.{Less}
-use Rattle.cata_core.specs.Entries.{Entries, Entry, key_cmp}
+use Rattle.cell_core.specs.Entry.{key_cmp}
+use Rattle.catalogue.specs.Entries.{Entries, Entry}
 use Rattle.site_docs.specs.RowsDraft.{HoldsRows}
 use Rattle.docs_core.specs.JoinedRows.{left_of}
 use Rattle.docs_core.proofs.call.joined_rows.write_before.Given as goal

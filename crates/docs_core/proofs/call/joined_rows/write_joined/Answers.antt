@@ -1,7 +1,7 @@
 use Rattle.std.proofs.Common.{◌++◌, [], ◌∷◌, ℕ, refl, subst, sym}
 use Rattle.cell_core.specs.Cell.{joined_cells}
-use Rattle.cata_core.specs.Clash.{IsFirstClash}
-use Rattle.cata_core.specs.Entries.{key_cmp}
+use Rattle.catalogue.specs.Clash.{IsFirstClash}
+use Rattle.cell_core.specs.Entry.{key_cmp}
 use Rattle.site_docs.specs.Sink.{entry_of}
 use Rattle.docs_core.specs.JoinedRows.{left_of}
 use Rattle.docs_core.proofs.JoinedRowsLemmas.{joining_before, joining_both, joining_clashes}

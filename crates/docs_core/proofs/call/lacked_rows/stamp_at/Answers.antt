@@ -1,7 +1,7 @@
 use Rattle.std.proofs.Common.{◌∙◌, ◌+◌, arith, ap, ap₂, drop, refl, sym}
 use Rattle.std.specs.FinMap.Entries.{find}
 use Rattle.std.specs.Ordering.{ordering_then}
-use Rattle.cata_core.specs.Entries.{EntryKey, key_cmp}
+use Rattle.cell_core.specs.Entry.{EntryKey, key_cmp}
 use Rattle.cata_core.proofs.SummaryListsLemmas.{not_greater_self}
 use Rattle.docs_core.proofs.LackedRowsLemmas.{drop_at, drop_past, drop_sorted}
 use Rattle.docs_core.proofs.PassedLemmas.{absent_first, found_first, found_passed, passed_less}

@@ -1,5 +1,5 @@
 use Rattle.std.proofs.Common.{◌<◌, ◌^◌, arith, length, subst, sym}
-use Rattle.cata_core.specs.Entries.{Entries}
+use Rattle.catalogue.specs.Entries.{Entries}
 use Rattle.docs_core.proofs.RowsFit.{site_fits}
 use Rattle.docs_core.proofs.call.merging.merge_document.Goals as goal
 

@@ -1,13 +1,14 @@
 use Rattle.std.proofs.Common.{◌∙◌, ◌++◌, [], ◌∷◌, None, ap, subst, sym}
 use Rattle.std.proofs.lemmas.Option.{IfSome_then}
-use Rattle.cata_core.specs.Entries.{EntryKey, key_cmp_exact}
+use Rattle.cell_core.specs.Entry.{EntryKey, key_cmp_exact}
 use Rattle.site_docs.specs.RowsDraft.{HoldsRows}
 use Rattle.cell_core.specs.Stamp.{stamp_cmp}
 use Rattle.cell_core.specs.declared.cell.Cell.{Cell}
 use Rattle.site_docs.specs.WrittenRows.{current_of, entry_of}
 use Rattle.docs_core.specs.SyncedRows.{order_to}
+use Rattle.lang_core.proofs.Basics.{less_of as lt_less}
 use Rattle.docs_core.proofs.StampedRowsLemmas.{later_agrees, later_joined}
-use Rattle.docs_core.proofs.SyncedRowsLemmas.{both_written, lt_less, some_both}
+use Rattle.docs_core.proofs.SyncedRowsLemmas.{both_written, some_both}
 use Rattle.docs_core.proofs.call.stamped_rows.replace_row.Goals as goal
 
 -- one row more is read

@@ -1,6 +1,6 @@
 use Rattle.std.proofs.Common.{◌∙◌, None, sym}
 use Rattle.std.proofs.lemmas.Option.{IfSome_then}
-use Rattle.cata_core.proofs.Basics.{tied}
+use Rattle.cell_core.proofs.Basics.{tied_order as tied}
 use Rattle.docs_core.proofs.SyncedRowsLemmas.{greater_left, own_written}
 use Rattle.docs_core.proofs.call.stamped_rows.write_change.Goals as goal
 

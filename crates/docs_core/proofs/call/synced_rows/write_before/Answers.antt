@@ -1,4 +1,4 @@
-use Rattle.cata_core.specs.Entries.{EntryKey}
+use Rattle.cell_core.specs.Entry.{EntryKey}
 use Rattle.docs_core.proofs.SyncedRowsLemmas.{synced_before}
 use Rattle.docs_core.proofs.call.synced_rows.write_before.Goals as goal
 

@@ -1,5 +1,5 @@
 use Rattle.std.proofs.Common.{◌∙◌, [], ◌∷◌, ap, sym}
-use Rattle.cata_core.specs.Entries.{EntryKey, key_cmp_exact}
+use Rattle.cell_core.specs.Entry.{EntryKey, key_cmp_exact}
 use Rattle.site_docs.specs.Sink.{entry_of}
 use Rattle.site_docs.specs.WrittenRows.{entry_of as row_entry}
 use Rattle.docs_core.specs.SyncedRows.{order_to}

@@ -1,7 +1,7 @@
 use Rattle.std.proofs.Common.{◌∙◌, sym}
 use Rattle.std.proofs.lemmas.Option.{IfSome_then}
-use Rattle.cata_core.proofs.Basics.{tied}
 use Rattle.site_docs.specs.Sink.{entry_of}
+use Rattle.cell_core.proofs.Basics.{tied_order as tied}
 use Rattle.docs_core.proofs.SyncedRowsLemmas.{greater_left, own_written}
 use Rattle.docs_core.proofs.call.synced_rows.write_joined.Goals as goal
 

@@ -4,12 +4,13 @@ use Rattle.std.specs.declared.cmp.Ordering.TheVariants.{Less}
 use Rattle.cell_core.specs.Cell.{stamp_cmp_total}
 use Rattle.cell_core.specs.Stamp.{stamp_cmp}
 use Rattle.cell_core.specs.declared.cell.Cell.{Cell}
-use Rattle.cata_core.specs.Entries.{EntryKey}
+use Rattle.cell_core.specs.Entry.{EntryKey}
 use Rattle.site_docs.specs.RowsDraft.{HoldsRows}
 use Rattle.site_docs.specs.Sink.{entry_of}
 use Rattle.site_docs.specs.WrittenRows.{entry_of as row_entry}
+use Rattle.lang_core.proofs.Basics.{less_of as lt_less}
 use Rattle.docs_core.proofs.JoinedRowsLemmas.{apart_agrees, joined_first, joined_later}
-use Rattle.docs_core.proofs.SyncedRowsLemmas.{lt_less, not_less}
+use Rattle.docs_core.proofs.SyncedRowsLemmas.{not_less}
 use Rattle.docs_core.proofs.call.synced_rows.write_later.Goals as goal
 
 -- the other cell is the later one

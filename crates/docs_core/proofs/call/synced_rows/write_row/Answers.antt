@@ -2,7 +2,8 @@ use Rattle.std.proofs.Common.{◌≡◌, ◌∙◌, ◌++◌, ap, sym}
 use Rattle.std.proofs.lemmas.Option.{IfSome_then}
 use Rattle.std.specs.Prelude.{⊤}
 use Rattle.std.specs.declared.cmp.Ordering.TheVariants.{Less}
-use Rattle.cata_core.specs.Entries.{Entry, IsAboveAll, key_cmp}
+use Rattle.cell_core.specs.Entry.{key_cmp}
+use Rattle.catalogue.specs.Entries.{Entry, IsAboveAll}
 use Rattle.site_docs.specs.WrittenRows.{current_of, entry_of}
 use Rattle.site_docs.proofs.DocumentsLemmas.{kept_more}
 use Rattle.docs_core.specs.SyncedRows.{order_to}

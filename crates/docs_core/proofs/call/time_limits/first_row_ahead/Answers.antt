@@ -1,6 +1,6 @@
 use Rattle.std.proofs.Common.{◌∙◌, ◌≤◌, ◌<◌, ap, arith, subst}
 use Rattle.cell_core.specs.declared.stamp.Stamp.{Stamp}
-use Rattle.cata_core.specs.Cells.{cells_left}
+use Rattle.catalogue.specs.Cells.{cells_left}
 use Rattle.docs_core.proofs.TimeLimitsLemmas.{searched_ahead, searched_all, searched_next}
 use Rattle.docs_core.proofs.TimeLimitsLemmas.{searched_none}
 use Rattle.docs_core.proofs.call.time_limits.first_row_ahead.Goals as goal

@@ -1,4 +1,4 @@
-use Rattle.cata_core.specs.Cells.{cells_left}
+use Rattle.catalogue.specs.Cells.{cells_left}
 use Rattle.docs_core.proofs.TimeLimitsLemmas.{IsSearched}
 use Rattle.docs_core.proofs.call.time_limits.first_row_ahead.Given as goal
 

@@ -1,13 +1,13 @@
 use Rattle.std.proofs.Common.{◌∙◌, ◌<◌, ◌^◌, List, Option, ap, arith, inl, inr, length, subst, sym}
 use Rattle.std.proofs.Common.{ℕ}
 use Rattle.std.proofs.lemmas.Result.{err_from_is_err_and}
-use Rattle.cata_core.specs.CataFault.{IsRefusal}
-use Rattle.cata_core.specs.Entries.{Entries, joined}
+use Rattle.catalogue.specs.CataFault.{IsRefusal}
+use Rattle.catalogue.specs.Entries.{Entries, joined}
 use Rattle.row_docs.specs.Reading.{IsOfDocument}
 use Rattle.site_docs.specs.ReadsAs.{IsSiteText, RefusesSite}
 use Rattle.map_docs.proofs.LangMapLabelsLemmas.{else_by}
 use Rattle.docs_core.specs.JoinedRows.{HoldsJoined}
-use Rattle.docs_core.specs.TimeLimits.{AreInTime, IsTimeAhead}
+use Rattle.site_docs.specs.RowsInTime.{AreInTime, IsTimeAhead}
 use Rattle.docs_core.specs.declared.call.joined_rows.JoinedRows.{JoinedRows}
 use Rattle.docs_core.proofs.CallsLemmas.{of_call, refused_after}
 use Rattle.docs_core.proofs.RowsFit.{site_fits}

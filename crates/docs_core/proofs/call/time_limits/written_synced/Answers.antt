@@ -3,7 +3,7 @@ use Rattle.std.proofs.lemmas.Option.{IfSome_then}
 use Rattle.cata_core.specs.Site.{SiteState}
 use Rattle.site_docs.specs.ReadsAs.{ReadsAsSite}
 use Rattle.docs_core.specs.SyncedRows.{HoldsSynced}
-use Rattle.docs_core.specs.TimeLimits.{AreInTime}
+use Rattle.site_docs.specs.RowsInTime.{AreInTime}
 use Rattle.docs_core.specs.declared.call.synced_rows.SyncedRows.{SyncedRows}
 use Rattle.docs_core.proofs.call.time_limits.written_synced.Goals as goal
 

@@ -1,6 +1,6 @@
 use Rattle.std.proofs.Common.{◌∙◌, ℕ, List, ap, subst}
 use Rattle.cell_core.specs.Stamp.{NoNext}
-use Rattle.cata_core.specs.Latest.{latest_of}
+use Rattle.catalogue.specs.Latest.{latest_of}
 use Rattle.cata_core.specs.Site.{SiteState}
 use Rattle.map_docs.specs.LangMaps.{labels_of}
 use Rattle.docs_core.specs.Revised.{IsRevised}

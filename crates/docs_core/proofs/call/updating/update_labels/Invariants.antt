@@ -1,6 +1,6 @@
 use Rattle.std.proofs.Common.{◌≡◌, ◌+◌, length}
 use Rattle.cell_core.specs.Keyed.{IsMap}
-use Rattle.cata_core.specs.Entries.{key_cmp}
+use Rattle.cell_core.specs.Entry.{key_cmp}
 use Rattle.map_docs.specs.LangMaps.{labels_of}
 use Rattle.docs_core.proofs.UpdatedLemmas.{IsFront}
 use Rattle.docs_core.proofs.call.updating.update_labels.Given as goal

@@ -3,7 +3,7 @@ use Rattle.std.proofs.lemmas.Option.{IfSome_then}
 use Rattle.std.proofs.lemmas.Result.{err_from_is_err_and}
 use Rattle.cell_core.specs.Keyed.{IsMap}
 use Rattle.cell_core.specs.declared.stamp.Stamp.{Stamp}
-use Rattle.cata_core.specs.Entries.{key_cmp}
+use Rattle.cell_core.specs.Entry.{key_cmp}
 use Rattle.cata_core.specs.Site.{SiteState}
 use Rattle.map_docs.proofs.LangMapLabelsLemmas.{else_by}
 use Rattle.site_docs.specs.ReadsAs.{ReadsAsSite}

@@ -3,7 +3,7 @@ use Rattle.std.proofs.Common.{take, ℕ}
 use Rattle.std.proofs.Math.Seq.{take-length}
 use Rattle.std.proofs.lemmas.Option.{IfSome_then}
 use Rattle.std.specs.Prelude.{option_map}
-use Rattle.cata_core.specs.Latest.{latest_of}
+use Rattle.catalogue.specs.Latest.{latest_of}
 use Rattle.site_docs.specs.ReadsAs.{ReadsAsSite}
 use Rattle.docs_core.specs.FoundChanges.{changes_of}
 use Rattle.docs_core.specs.Made.{Change}

@@ -1,8 +1,9 @@
 use Rattle.std.proofs.Common.{List, sym, ◌∙◌, ap, subst}
 use Rattle.cell_core.specs.Keyed.{IsMap}
-use Rattle.cata_core.specs.Entries.{IsAboveAll, key_cmp}
+use Rattle.cell_core.specs.Entry.{key_cmp}
+use Rattle.catalogue.specs.Entries.{IsAboveAll}
 use Rattle.map_docs.specs.LangMaps.{Labelled, labels_of}
-use Rattle.cata_core.proofs.BehindLemmas.{IsMap-behind}
+use Rattle.catalogue.proofs.BehindLemmas.{IsMap-behind}
 use Rattle.map_docs.proofs.LangMapsLemmas.{labels_push}
 use Rattle.map_docs.proofs.maps.LangMaps.push.Goals as goal
 

@@ -1,5 +1,5 @@
 use Rattle.std.proofs.Common.{drop}
-use Rattle.nego_core.specs.Fingerprint.{slot_of}
+use Rattle.list_core.specs.Fingerprint.{slot_of}
 use Rattle.nego_core.proofs.LangSetLemmas.{IsTableSoFar}
 use Rattle.nego_core.proofs.lang_set.LangSet.new.Given as goal
 

@@ -1,5 +1,5 @@
 use Rattle.std.proofs.Common.{ℕ, List, ◌∙◌, ap, subst}
-use Rattle.nego_core.specs.Fingerprint.{slot_of, IsTableOf}
+use Rattle.list_core.specs.Fingerprint.{slot_of, IsTableOf}
 use Rattle.nego_core.proofs.LangSetLemmas.{absent}
 use Rattle.nego_core.proofs.lang_set.LangSetHolds.holds.Goals as goal
 

@@ -1,6 +1,6 @@
 use Rattle.std.proofs.Common.{Some, None, sym, ◌∙◌}
 use Rattle.std.specs.Prelude.{option_map}
-use Rattle.nego_core.proofs.Basics.{false_true}
+use Rattle.list_core.proofs.Basics.{false_true}
 use Rattle.nego_core.proofs.ShortlistLemmas.{chosen_default, chosen_match, chosen_nothing}
 use Rattle.nego_core.proofs.ShortlistLemmas.{default_there}
 use Rattle.nego_core.proofs.shortlist.Shortlist.choose.Goals as goal

@@ -1,8 +1,8 @@
 use Rattle.std.proofs.Common.{◌≡◌, ◌==◌, ◌∙◌, ◌++◌, [], List, ap, length, subst, sym, true≢false}
 use Rattle.cell_core.proofs.AboveLemmas.{on_ok_then}
-use Rattle.cata_core.specs.Asking.{IsLookedUpIn}
-use Rattle.cata_core.specs.Live.{Labelled}
-use Rattle.cata_core.proofs.Basics.{append_nil}
+use Rattle.catalogue.specs.Asking.{IsLookedUpIn}
+use Rattle.catalogue.specs.Live.{Labelled}
+use Rattle.catalogue.proofs.Basics.{append_nil}
 use Rattle.query_docs.specs.BundleByMessage.{default_of}
 use Rattle.query_docs.specs.ByMessage.{cells_of}
 use Rattle.query_docs.specs.Draft.{HasWritten}

@@ -1,6 +1,6 @@
 use Rattle.std.proofs.Common.{◌∙◌, ◌++◌, List, ap, false, refl, subst, sym, true}
 use Rattle.cell_core.proofs.AboveLemmas.{on_ok_then}
-use Rattle.cata_core.proofs.Basics.{append_nil}
+use Rattle.catalogue.proofs.Basics.{append_nil}
 use Rattle.map_docs.specs.LangMaps.{Labelled}
 use Rattle.query_docs.specs.ByMessage.{cells_of}
 use Rattle.query_docs.specs.Draft.{HasWritten}

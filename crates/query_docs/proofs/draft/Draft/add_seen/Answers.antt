@@ -1,6 +1,6 @@
 use Rattle.std.proofs.Common.{◌++◌, List, subst, sym}
 use Rattle.std.specs.Prelude.{OnOk, Result}
-use Rattle.cata_core.specs.Entries.{EntryKey}
+use Rattle.cell_core.specs.Entry.{EntryKey}
 use Rattle.map_docs.specs.LangMaps.{Labelled}
 use Rattle.site_docs.specs.Sink.{texts_of}
 use Rattle.site_docs.specs.declared.sink.LabelRef.{LabelRef}

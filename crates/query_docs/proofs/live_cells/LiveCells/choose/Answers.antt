@@ -1,9 +1,9 @@
 use Rattle.std.proofs.Common.{sym, subst}
 use Rattle.std.specs.Option.{option_map}
 use Rattle.nego_core.specs.declared.widening.Widening.{Widening}
-use Rattle.cata_core.specs.Asking.{IsChosenIn}
+use Rattle.catalogue.specs.Asking.{IsChosenIn}
 use Rattle.query_docs.specs.LiveCells.{labels_of}
-use Rattle.cata_core.proofs.LiveLanguagesLemmas.{chosen_by, chosen_off}
+use Rattle.catalogue.proofs.LiveLanguagesLemmas.{chosen_by, chosen_off}
 use Rattle.query_docs.proofs.live_cells.LiveCells.choose.Goals as goal
 
 pub returns-in-Off : goal.returns-in-Off

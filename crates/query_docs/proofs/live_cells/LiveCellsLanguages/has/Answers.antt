@@ -1,5 +1,5 @@
 use Rattle.std.proofs.Common.{◌∙◌, sym}
-use Rattle.cata_core.proofs.LiveLanguagesLemmas.{among_live}
+use Rattle.catalogue.proofs.LiveLanguagesLemmas.{among_live}
 use Rattle.query_docs.specs.LiveCells.{labels_of}
 use Rattle.query_docs.proofs.live_cells.LiveCellsLanguages.has.Goals as goal
 

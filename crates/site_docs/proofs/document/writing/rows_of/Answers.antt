@@ -1,6 +1,6 @@
 use Rattle.std.proofs.Common.{◌≡◌, ◌∙◌, ◌++◌, [], ◌∷◌, append-nil, append_assoc, ap, sym}
-use Rattle.cata_core.specs.Cells.{cells_left}
-use Rattle.cata_core.specs.Entries.{Entries, Entry}
+use Rattle.catalogue.specs.Cells.{cells_left}
+use Rattle.catalogue.specs.Entries.{Entries, Entry}
 use Rattle.site_docs.proofs.document.writing.rows_of.Goals as goal
 
 -- none is written yet

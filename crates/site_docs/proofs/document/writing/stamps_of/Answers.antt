@@ -1,10 +1,11 @@
 use Rattle.std.proofs.Common.{◌≡◌, arith, length, subst, sym, take}
 use Rattle.std.proofs.Math.Seq.{take-length}
 use Rattle.cata_core.specs.Delta.{Stamps}
-use Rattle.cata_core.specs.Entries.{EntryKey}
+use Rattle.cell_core.specs.Entry.{EntryKey}
 use Rattle.cell_core.specs.declared.stamp.Stamp.{Stamp}
 use Rattle.site_docs.specs.StampsDraft.{HoldsStamps}
-use Rattle.site_docs.proofs.DocumentsLemmas.{some_at, taken_more}
+use Rattle.catalogue.proofs.Basics.{there as some_at}
+use Rattle.site_docs.proofs.DocumentsLemmas.{taken_more}
 use Rattle.site_docs.proofs.document.writing.stamps_of.Goals as goal
 use Rattle.site_docs.proofs.document.writing.stamps_of.Goals.{in-Some+in_ok-add, in_default}
 

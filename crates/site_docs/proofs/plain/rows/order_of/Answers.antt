@@ -3,7 +3,7 @@ use Rattle.std.proofs.lemmas.Slice.Eq.{bytes_eq-Decides}
 use Rattle.std.specs.Cmp.{tied_itself}
 use Rattle.std.specs.Cmp.Lexicographic.{nat_list_cmp_total}
 use Rattle.std.specs.declared.cmp.Ordering.TheVariants.{Equal}
-use Rattle.cata_core.specs.Entries.{text_cmp}
+use Rattle.cell_core.specs.Entry.{text_cmp}
 use Rattle.site_docs.proofs.plain.rows.order_of.Goals as goal
 
 -- a text is tied with itself

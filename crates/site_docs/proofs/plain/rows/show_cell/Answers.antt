@@ -1,5 +1,6 @@
 use Rattle.std.proofs.Common.{◌∙◌, ◌++◌, [], ◌∷◌, ap, length, refl, subst, sym, take}
-use Rattle.cata_core.specs.Entries.{Entry, EntryKey, IsAboveAll}
+use Rattle.cell_core.specs.Entry.{EntryKey}
+use Rattle.catalogue.specs.Entries.{Entry, IsAboveAll}
 use Rattle.site_docs.specs.PlainRows.{row_in}
 use Rattle.site_docs.specs.Sink.{texts_of}
 use Rattle.site_docs.proofs.PlainLemmas.{front_apart, front_closed, row_begins, row_front}

@@ -3,7 +3,8 @@ use Rattle.std.proofs.lemmas.List.Elements.{All-nil}
 use Rattle.std.specs.Prelude.{Some}
 use Rattle.std.specs.declared.cmp.Ordering.TheVariants.{Less}
 use Rattle.serde_json.specs.Written.{comma_if, compact_text}
-use Rattle.cata_core.specs.Entries.{Entry, EntryKey, key_cmp}
+use Rattle.cell_core.specs.Entry.{EntryKey, key_cmp}
+use Rattle.catalogue.specs.Entries.{Entry}
 use Rattle.row_docs.specs.Entries.{cells_values, entry_value}
 use Rattle.site_docs.specs.PlainRows.{IsLastOf}
 use Rattle.site_docs.proofs.PlainLemmas.{array_taken, cell_taken, cells_kept, is_later-push}

@@ -2,7 +2,7 @@ use Rattle.std.proofs.Common.{◌≡◌, [], ◌∷◌, ◌++◌, false, true, l
 use Rattle.std.specs.Prelude.{Some}
 use denote.Text.{Utf8}
 use denote.Shadow.{shadow}
-use Rattle.cata_core.specs.Entries.{Entries}
+use Rattle.catalogue.specs.Entries.{Entries}
 use Rattle.row_docs.specs.Entries.{cells_values}
 use Rattle.row_docs.specs.Valid.{AreKeptCells}
 use Rattle.site_docs.specs.Plain.{is_later, open_items}

@@ -1,10 +1,10 @@
 use Rattle.std.proofs.Common.{◌≡◌, ◌∙◌, List, ℕ, refl, sym}
 use Rattle.std.proofs.lemmas.Slice.Eq.{bytes_eq-Decides}
 use Rattle.std.specs.Str.{bytes_eq}
-use Rattle.cell_core.proofs.CellLemmas.{holds_from_not}
 use Rattle.cata_core.specs.Delta.{summary_of}
 use Rattle.cata_core.proofs.SummaryLemmas.{summary-IsMap}
 use Rattle.site_docs.specs.declared.stamps_draft.StampsDraft.{StampsDraft}
+use Rattle.lang_core.proofs.Basics.{not_false as holds_from_not}
 use Rattle.site_docs.proofs.PlainReads.{summarised}
 use Rattle.site_docs.proofs.plain.summaries.written_summary.Goals as goal
 

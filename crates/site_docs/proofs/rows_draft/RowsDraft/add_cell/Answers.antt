@@ -1,6 +1,6 @@
 use Rattle.std.proofs.Common.{◌∙◌, ◌++◌, ap}
 use Rattle.std.proofs.lemmas.Result.{IfOk-weaker}
-use Rattle.cata_core.specs.Entries.{Entry}
+use Rattle.catalogue.specs.Entries.{Entry}
 use Rattle.row_docs.specs.Entries.{cells_values, entry_value}
 use Rattle.row_docs.specs.Texts.{value_tokens}
 use Rattle.site_docs.specs.Envelope.{cells_opening}

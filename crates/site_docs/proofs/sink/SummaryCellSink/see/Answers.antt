@@ -2,7 +2,8 @@ use Rattle.std.proofs.Common.{◌≡◌, List, subst, sym, ℕ}
 use Rattle.std.proofs.lemmas.List.Elements.{All-map}
 use Rattle.std.specs.declared.cmp.Ordering.TheVariants.{Less}
 use Rattle.cell_core.specs.declared.stamp.Stamp.{Stamp}
-use Rattle.cata_core.specs.Entries.{Entry, EntryKey, IsAboveAll, key_cmp}
+use Rattle.cell_core.specs.Entry.{EntryKey, key_cmp}
+use Rattle.catalogue.specs.Entries.{Entry, IsAboveAll}
 use Rattle.site_docs.proofs.sink.SummaryCellSink.see.Goals as goal
 
 -- the key is greater than those of the cells before

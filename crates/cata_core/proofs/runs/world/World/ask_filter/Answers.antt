@@ -1,9 +1,9 @@
 use Rattle.std.proofs.Common.{◌<◌, [], ◌∷◌, sym, subst, refl, length, arith}
 use Rattle.cata_core.specs.declared.answer.Answer.TheVariants.{Filter}
-use Rattle.cata_core.specs.Entries.{Entries}
-use Rattle.cata_core.specs.Asking.{Weighed, IsFilterAnswer}
+use Rattle.catalogue.specs.Entries.{Entries}
+use Rattle.catalogue.specs.Asking.{Weighed, IsFilterAnswer}
 use Rattle.cata_core.specs.World.{at_sites}
-use Rattle.cata_core.proofs.Basics.{append_nil}
+use Rattle.catalogue.proofs.Basics.{append_nil}
 use Rattle.cata_core.proofs.WorldLemmas.{at_site, named_one}
 use Rattle.cata_core.proofs.runs.world.World.ask_filter.Goals as goal
 

@@ -1,12 +1,12 @@
 use Rattle.std.proofs.Common.{◌<◌, [], ◌∷◌, sym, subst, refl, length, arith, ℕ, List, Option}
 use Rattle.std.specs.Option.{option_copied}
 use Rattle.cata_core.specs.declared.answer.Answer.TheVariants.{Lookup}
-use Rattle.cata_core.specs.declared.reply.Reply.{Reply}
-use Rattle.cata_core.specs.Entries.{Entries}
-use Rattle.cata_core.specs.Reply.{reply_of}
-use Rattle.cata_core.specs.Asking.{IsLookupAnswer}
+use Rattle.catalogue.specs.declared.reply.Reply.{Reply}
+use Rattle.catalogue.specs.Entries.{Entries}
+use Rattle.catalogue.specs.Reply.{reply_of}
+use Rattle.catalogue.specs.Asking.{IsLookupAnswer}
 use Rattle.cata_core.specs.World.{at_sites}
-use Rattle.cata_core.proofs.Basics.{append_nil}
+use Rattle.catalogue.proofs.Basics.{append_nil}
 use Rattle.cata_core.proofs.WorldLemmas.{at_site, named_one}
 use Rattle.cata_core.proofs.runs.world.World.ask_lookup.Goals as goal
 

@@ -5,7 +5,7 @@ use Rattle.cata_core.specs.declared.step.Step.TheVariants.{Deliver}
 use Rattle.cata_core.specs.Held.{PostedCells}
 use Rattle.cata_core.specs.PlayFault.{IsFaultOf}
 use Rattle.cata_core.specs.World.{held_in, IsClashAt}
-use Rattle.cata_core.proofs.Basics.{append_nil}
+use Rattle.catalogue.proofs.Basics.{append_nil}
 use Rattle.cata_core.proofs.WorldLemmas.{delivered_sound, delivered_held, delivered_fault}
 use Rattle.cata_core.proofs.WorldLemmas.{addressed}
 use Rattle.cata_core.proofs.WorldLemmas.{both_hold}

@@ -1,6 +1,6 @@
 use Rattle.std.proofs.Common.{◌∙◌, ◌++◌, [], ◌∷◌, append_assoc, subst, sym}
 use Rattle.std.specs.FinMap.Entries.{is_sorted-put, put}
-use Rattle.cata_core.specs.Entries.{EntryKey, key_cmp, key_cmp_total}
+use Rattle.cell_core.specs.Entry.{EntryKey, key_cmp, key_cmp_total}
 use Rattle.site_docs.specs.RowsDraft.{HoldsRows}
 use Rattle.docs_core.specs.EditedRows.{after_key, before_key}
 use Rattle.docs_core.proofs.EditedRowsLemmas.{put_between}

@@ -4,9 +4,10 @@ use Rattle.std.specs.Ordering.{is_gt}
 use Rattle.cell_core.specs.Cell.{joined_stamps}
 use Rattle.cell_core.specs.Keyed.{joined_if_both}
 use Rattle.cell_core.specs.declared.stamp.Stamp.{Stamp}
-use Rattle.cata_core.specs.Entries.{EntryKey, key_cmp}
+use Rattle.cell_core.specs.Entry.{EntryKey, key_cmp}
 use Rattle.site_docs.specs.Sink.{entry_of}
-use Rattle.docs_core.proofs.EditedRowsLemmas.{latest_more, order_known, passed_more}
+use Rattle.query_docs.proofs.CountedLemmas.{latest_more}
+use Rattle.docs_core.proofs.EditedRowsLemmas.{order_known, passed_more}
 use Rattle.docs_core.proofs.call.edited_rows.EditedRowsCellSink.see.Goals as goal
 
 -- the row is on its side of the key, and its stamp is among all

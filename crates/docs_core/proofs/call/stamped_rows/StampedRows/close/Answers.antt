@@ -1,6 +1,6 @@
 use Rattle.std.proofs.Common.{◌≡◌, ap, List, None, subst, sym, ℕ}
-use Rattle.cata_core.specs.Entries.{Entries, joined}
-use Rattle.cata_core.specs.Latest.{latest_of}
+use Rattle.catalogue.specs.Entries.{Entries, joined}
+use Rattle.catalogue.specs.Latest.{latest_of}
 use Rattle.cata_core.specs.Site.{SiteState}
 use Rattle.site_docs.proofs.OneDocument.{one_site}
 use Rattle.site_docs.specs.ReadsAs.{IsSiteText}

@@ -1,5 +1,5 @@
 use Rattle.docs_core.proofs.SyncedRowsLemmas.{synced_all, synced_whole}
-use Rattle.cata_core.specs.Entries.{joined}
+use Rattle.catalogue.specs.Entries.{joined}
 use Rattle.docs_core.proofs.call.synced_rows.SyncedRows.close_both.Goals as goal
 
 -- the rows are read as far as they are joined

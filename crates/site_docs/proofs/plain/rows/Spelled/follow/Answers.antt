@@ -1,6 +1,6 @@
 use Rattle.std.proofs.Common.{◌∙◌, ap₂, subst, sym}
 use Rattle.cell_core.specs.MessageId.{IsMessageId}
-use Rattle.cata_core.specs.Entries.{text_cmp}
+use Rattle.cell_core.specs.Entry.{text_cmp}
 use Rattle.site_docs.proofs.plain.rows.Spelled.follow.Goals as goal
 
 -- the id is that of the last text

@@ -1,9 +1,0 @@
-use Rattle.std.proofs.Common.{◌≡◌, take}
-use Rattle.nego_core.specs.Filtering.{texts_of}
-use Rattle.cata_core.specs.Live.{languages}
-use Rattle.cata_core.specs.LentEntries.{labelled_of}
-use Rattle.cata_core.proofs.asking.languages_of.Given as goal
-
-abbrev pub invariant-loop-lang : goal.invariant-loop-lang
-invariant-loop-lang l =
-    texts_of l.langs.items ≡ languages (labelled_of (take l.lang-index l.labels))

@@ -1,9 +1,0 @@
-use Rattle.std.proofs.Common.{subst}
-use Rattle.cell_core.specs.Keyed.{IsMap}
-use Rattle.cata_core.specs.Entries.{key_cmp}
-use Rattle.cata_core.proofs.NestedCataloguesLemmas.{IsMap-catalogue}
-use Rattle.cata_core.proofs.catalogue.Catalogue.len.Goals as goal
-
-pub returns-clause-sorted : goal.returns-clause-sorted
-returns-clause-sorted c =
-    subst (IsMap key_cmp) c.self.view_is (IsMap-catalogue c.self.inside.map c.self.invariant.nested)

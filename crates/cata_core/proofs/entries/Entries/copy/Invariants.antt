@@ -1,5 +1,0 @@
-use Rattle.std.proofs.Common.{◌≡◌, take}
-use Rattle.cata_core.proofs.entries.Entries.copy.Given as goal
-
-abbrev pub invariant-loop-lang : goal.invariant-loop-lang
-invariant-loop-lang l = l.items.items ≡ take l.lang-index l.lang-items

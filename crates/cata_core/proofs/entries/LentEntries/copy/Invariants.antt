@@ -1,6 +1,0 @@
-use Rattle.std.proofs.Common.{◌≡◌, take}
-use Rattle.cata_core.specs.LentEntries.{weighed_of}
-use Rattle.cata_core.proofs.entries.LentEntries.copy.Given as goal
-
-abbrev pub invariant-loop-lang : goal.invariant-loop-lang
-invariant-loop-lang l = l.items.items ≡ weighed_of (take l.lang-index l.lang-items)

@@ -1,8 +1,0 @@
-use Rattle.std.proofs.Common.{◌≡◌, take}
-use Rattle.cata_core.specs.Asking.{picked}
-use Rattle.cata_core.specs.LentEntries.{labelled_of, weighed_of}
-use Rattle.cata_core.proofs.entries.pick_all.Given as goal
-
-abbrev pub invariant-loop-place : goal.invariant-loop-place
-invariant-loop-place l =
-    weighed_of l.items.items ≡ picked (labelled_of l.labels) (take l.place l.picks)

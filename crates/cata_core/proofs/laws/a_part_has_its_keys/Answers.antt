@@ -1,5 +1,0 @@
-use Rattle.cata_core.proofs.PartsLemmas.{find-part}
-use Rattle.cata_core.proofs.laws.a_part_has_its_keys.Goals as goal
-
-pub returns : goal.returns
-returns c = find-part

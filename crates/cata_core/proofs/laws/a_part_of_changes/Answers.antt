@@ -1,5 +1,0 @@
-use Rattle.cata_core.proofs.ChangesLemmas.{part_changes}
-use Rattle.cata_core.proofs.laws.a_part_of_changes.Goals as goal
-
-pub returns : goal.returns
-returns c = part_changes

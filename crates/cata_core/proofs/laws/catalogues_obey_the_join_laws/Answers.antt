@@ -1,5 +1,0 @@
-use Rattle.cata_core.specs.Entries.{catalogue_laws}
-use Rattle.cata_core.proofs.laws.catalogues_obey_the_join_laws.Goals as goal
-
-pub returns : goal.returns
-returns c = catalogue_laws

@@ -1,5 +1,0 @@
-use Rattle.cata_core.proofs.MessagesLemmas.{one_list_of_messages}
-use Rattle.cata_core.proofs.laws.one_list_of_messages.Goals as goal
-
-pub returns : goal.returns
-returns c = one_list_of_messages

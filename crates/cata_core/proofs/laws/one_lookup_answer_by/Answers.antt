@@ -1,5 +1,0 @@
-use Rattle.cata_core.proofs.UniqueAnswersLemmas.{one_lookup_answer_by}
-use Rattle.cata_core.proofs.laws.one_lookup_answer_by.Goals as goal
-
-pub returns-clause-one : goal.returns-clause-one
-returns-clause-one c = one_lookup_answer_by

@@ -1,6 +1,0 @@
-use Rattle.cata_core.proofs.CatalogueLemmas.{same_settled, same_catalogue}
-use Rattle.cata_core.proofs.laws.same_edits_same_catalogue.Goals as goal
-
-pub returns : goal.returns
-returns c =
-    λ xs ys settled same. (same_settled xs ys settled same, same_catalogue xs ys settled same)

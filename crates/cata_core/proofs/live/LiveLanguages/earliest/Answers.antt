@@ -1,9 +1,0 @@
-use Rattle.std.proofs.Common.{subst}
-use Rattle.nego_core.specs.WidenedChoice.{MatchEarliest}
-use Rattle.cata_core.specs.Live.{Labelled, languages}
-use Rattle.cata_core.proofs.live.LiveLanguages.earliest.Goals as goal
-
-pub returns : goal.returns
-returns c =
-    subst (λ (x : Labelled). MatchEarliest c.args.ranges.now.scheme c.args.ranges.now.list.now
-    (languages x) c.earliest_of.result) c.new.ensures.labels c.earliest_of.ensures

@@ -1,8 +1,0 @@
-use Rattle.cata_core.specs.Labels.{labels_left}
-use Rattle.cata_core.proofs.LiveLanguagesLemmas.{IsEarliestBefore}
-use Rattle.cata_core.proofs.live.earliest_of.Given as goal
-
-abbrev pub invariant-loop-lang : goal.invariant-loop-lang
-invariant-loop-lang l =
-    IsEarliestBefore l.ranges.scheme l.ranges.list.now (labels_left l.fn.labels)
-    (labels_left l.lang-iterator) l.earliest

@@ -1,9 +1,0 @@
--- The live labels that are in a set of them.
-use Rattle.std.specs.Option.{option_copied}
-use Rattle.cata_core.specs.declared.live.Live.{Live}
-use Rattle.cata_core.specs.Flat.{inner_of}
-use Rattle.cata_core.specs.Live.{Labelled, live_of}
-
--- the live labels of these cells; none where the message has no cells
-abbrev pub live_in : Live → Labelled
-live_in l = live_of (inner_of (option_copied l.cells))

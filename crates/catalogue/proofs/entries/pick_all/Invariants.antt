@@ -1,0 +1,8 @@
+use Rattle.std.proofs.Common.{◌≡◌, take}
+use Rattle.catalogue.specs.Asking.{picked}
+use Rattle.catalogue.specs.LentEntries.{labelled_of, weighed_of}
+use Rattle.catalogue.proofs.entries.pick_all.Given as goal
+
+abbrev pub invariant-loop-place : goal.invariant-loop-place
+invariant-loop-place l =
+    weighed_of l.items.items ≡ picked (labelled_of l.labels) (take l.place l.picks)

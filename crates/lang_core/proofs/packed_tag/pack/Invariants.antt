@@ -1,7 +1,0 @@
-use Rattle.std.proofs.Common.{◌≡◌, ◌≤◌, drop, length}
-use Rattle.lang_core.specs.PackedTag.{packed}
-use Rattle.lang_core.proofs.packed_tag.pack.Given as goal
-
-abbrev pub invariant-loop-place : goal.invariant-loop-place
-invariant-loop-place l =
-    (l.number ≡ packed (drop l.place l.subtag)) × (l.place ≤ length l.subtag)

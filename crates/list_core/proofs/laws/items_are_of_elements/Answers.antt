@@ -1,0 +1,5 @@
+use Rattle.list_core.proofs.LenientLemmas.{of_elements}
+use Rattle.list_core.proofs.laws.items_are_of_elements.Goals as goal
+
+pub returns : goal.returns
+returns c = of_elements

@@ -1,0 +1,5 @@
+use Rattle.list_core.proofs.NamedLemmas.{named_refuse}
+use Rattle.list_core.proofs.laws.named_refuse_alone.Goals as goal
+
+pub returns : goal.returns
+returns c = named_refuse

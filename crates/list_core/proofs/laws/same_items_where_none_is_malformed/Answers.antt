@@ -1,0 +1,5 @@
+use Rattle.list_core.proofs.LenientLemmas.{lenient_too}
+use Rattle.list_core.proofs.laws.same_items_where_none_is_malformed.Goals as goal
+
+pub returns : goal.returns
+returns c = lenient_too

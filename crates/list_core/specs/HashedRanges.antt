@@ -1,0 +1,23 @@
+-- Ranges in hash buckets.
+use Rattle.std.specs.Prelude.{ℕ, ◌<◌, ◌%◌, ◌==◌, List, count_by, length, map}
+use Rattle.list_core.specs.Item.{Item}
+use Rattle.list_core.specs.Fingerprint.{fingerprint_of}
+use Rattle.list_core.specs.Chains.{AreLinks}
+use Rattle.list_core.specs.declared.chains.Chains.{Chains}
+
+-- the bucket of a text among so many
+abbrev pub bucket_of : ℕ → List ℕ → ℕ
+bucket_of buckets text = fingerprint_of text % buckets
+
+-- the bucket of each item's range, among so many
+abbrev pub bucket_numbers : ℕ → List Item → List ℕ
+bucket_numbers buckets items = map (λ i. bucket_of buckets i.range) items
+
+-- the items in their buckets, of which there are as many as items
+abbrev pub AreBuckets : List Item → Chains → Type 0
+AreBuckets items buckets =
+    (0 < length items) × AreLinks (length items) (bucket_numbers (length items) items) buckets
+
+-- more than so many of the numbers are of one bucket
+abbrev pub IsCrowded : ℕ → List ℕ → Type 0
+IsCrowded most numbers = (bucket : ℕ) × (most < count_by (λ n. n == bucket) numbers)

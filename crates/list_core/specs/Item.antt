@@ -1,0 +1,30 @@
+-- Items of a priority list, and when they are equal.
+use Rattle.std.specs.Prelude.{ℕ, ◌<◌, List, [], ◌∷◌, Bool, nat_eq, All}
+use Rattle.std.specs.Ordering.{on, eq_of_both}
+use Rattle.std.specs.Cmp.{IsEquivalence, nat_eq_equiv, and_equiv, on_equiv}
+use Rattle.std.specs.Cmp.Lexicographic.{pointwise, on_texts_equal}
+
+-- a range, by its text, with its weight in thousandths
+pub record Item : Type 0 where
+  pub range : List ℕ
+  pub weight : ℕ
+
+-- the same range with the same weight
+abbrev pub item_eq : Item → Item → Bool
+item_eq = eq_of_both (on (λ i. i.range) (pointwise nat_eq)) (on (λ i. i.weight) nat_eq)
+
+-- that equality is an equivalence
+pub item_equiv : IsEquivalence item_eq
+item_equiv =
+    and_equiv (on_texts_equal (λ (i : Item). i.range))
+    (on_equiv (λ (i : Item). i.weight) nat_eq_equiv)
+
+-- the first byte of the first subtag, or 0 where that is empty
+abbrev pub first_byte : List (List ℕ) → ℕ
+first_byte [] = 0
+first_byte ([] ∷ more) = 0
+first_byte ((b ∷ s) ∷ more) = b
+
+-- no weight is 0
+abbrev pub AllPositive : List Item → Type 0
+AllPositive items = All (λ i. 0 < i.weight) items

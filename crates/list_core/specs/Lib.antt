@@ -1,0 +1,13 @@
+pub mod Basics
+pub mod Fault
+pub mod Fingerprint
+pub mod Item
+pub mod PackedTag
+pub mod Weight
+pub mod Field
+pub mod Deciding
+pub mod Chains
+pub mod HashedRanges
+pub mod Index
+pub mod LookupOrder
+pub mod FirstTried

@@ -1,8 +1,0 @@
-use Rattle.lang_core.specs.Text.{pieces}
-use Rattle.nego_core.specs.Deciding.{IsBest, Matches}
-use Rattle.nego_core.proofs.MostSpecificLemmas.{Before}
-use Rattle.nego_core.proofs.deciding.best_of.Given as goal
-
-abbrev pub invariant-loop-place : goal.invariant-loop-place
-invariant-loop-place l =
-    IsBest (Before (λ _ i. Matches l.scheme (pieces i.range) (pieces l.tag)) l.place) l.items l.best

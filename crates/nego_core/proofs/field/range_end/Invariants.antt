@@ -1,7 +1,0 @@
-use Rattle.std.proofs.Common.{◌≡◌, true, take}
-use Rattle.std.specs.List.{list_all}
-use Rattle.nego_core.specs.Field.{is_inner}
-use Rattle.nego_core.proofs.field.range_end.Given as goal
-
-abbrev pub invariant-loop-end : goal.invariant-loop-end
-invariant-loop-end l = list_all is_inner (take l.end l.text) ≡ true

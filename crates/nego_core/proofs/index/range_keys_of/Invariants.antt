@@ -1,5 +1,0 @@
-use Rattle.nego_core.proofs.index.range_keys_of.Given as goal
-use Rattle.nego_core.specs.Index.{AreRangeKeys}
-
-abbrev pub invariant-loop-place : goal.invariant-loop-place
-invariant-loop-place l = AreRangeKeys l.items l.place l.keys.items

@@ -1,5 +1,0 @@
-use Rattle.nego_core.proofs.IndexLemmas.{NoneBefore}
-use Rattle.nego_core.proofs.indexed_items.first_place.Given as goal
-
-abbrev pub invariant-loop-place : goal.invariant-loop-place
-invariant-loop-place l = NoneBefore l.items l.text l.place

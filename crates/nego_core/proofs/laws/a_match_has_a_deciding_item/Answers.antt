@@ -1,5 +1,0 @@
-use Rattle.nego_core.proofs.MatchedLemmas.{a_match_decides}
-use Rattle.nego_core.proofs.laws.a_match_has_a_deciding_item.Goals as goal
-
-pub returns : goal.returns
-returns c = a_match_decides

@@ -1,5 +1,0 @@
-use Rattle.nego_core.proofs.FieldLemmas.{one_kind}
-use Rattle.nego_core.proofs.laws.field_is_of_one_kind.Goals as goal
-
-pub returns : goal.returns
-returns c = one_kind

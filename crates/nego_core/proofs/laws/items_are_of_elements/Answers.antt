@@ -1,5 +1,0 @@
-use Rattle.nego_core.proofs.LenientLemmas.{of_elements}
-use Rattle.nego_core.proofs.laws.items_are_of_elements.Goals as goal
-
-pub returns : goal.returns
-returns c = of_elements

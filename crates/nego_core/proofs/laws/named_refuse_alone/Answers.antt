@@ -1,5 +1,0 @@
-use Rattle.nego_core.proofs.NamedLemmas.{named_refuse}
-use Rattle.nego_core.proofs.laws.named_refuse_alone.Goals as goal
-
-pub returns : goal.returns
-returns c = named_refuse

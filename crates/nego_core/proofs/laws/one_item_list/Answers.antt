@@ -1,5 +1,0 @@
-use Rattle.nego_core.proofs.FieldUnique.{one_items}
-use Rattle.nego_core.proofs.laws.one_item_list.Goals as goal
-
-pub returns : goal.returns
-returns c = one_items

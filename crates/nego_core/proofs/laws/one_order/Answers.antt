@@ -1,5 +1,0 @@
-use Rattle.nego_core.proofs.LookupOrderLemmas.{one_order_of}
-use Rattle.nego_core.proofs.laws.one_order.Goals as goal
-
-pub returns : goal.returns
-returns c = one_order_of

@@ -1,0 +1,16 @@
+use Rattle.std.proofs.Common.{◌∙◌, ◌<◌, ◌∷◌, ap₂, drop-cons, subst, sym}
+use Rattle.std.proofs.lemmas.Str.{IsCharBoundary-after_ascii}
+use Rattle.row_docs.proofs.plain_texts.first_byte.Goals as goal
+
+pub range_from-requires : goal.range_from-requires
+range_from-requires c = λ _.
+    let first = rw c.as_bytes.ensures.value at c.in_ok-first.ensures in
+    let utf8 = rw c.as_bytes.ensures.value at c.as_bytes.ensures.utf8 in
+    IsCharBoundary-after_ascii c.args.text.now 0 utf8 first.2
+    (subst (λ b. b < 128) (sym first.0) first.1)
+
+pub returns : goal.returns
+returns c =
+    let first = rw c.as_bytes.ensures.value at c.in_ok-first.ensures in
+    drop-cons c.args.text.now 0 0 first.2
+    ∙ ap₂ (λ b bs. b ∷ bs) first.0 (sym c.range_from.ensures.value)
