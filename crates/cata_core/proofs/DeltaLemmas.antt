@@ -16,8 +16,8 @@ use Rattle.catalogue.specs.Entries.{Entry, Entries, Agree}
 use Rattle.catalogue.specs.Entries.{joined}
 use Rattle.cata_core.specs.Delta.{Stamps, is_missing, delta_of, HasAtLeast, HasAll}
 use Rattle.catalogue.proofs.Basics.{not_lt}
-use Rattle.catalogue.proofs.StampOrderLemmas.{not_lt_trans}
-use Rattle.catalogue.proofs.FilteredLemmas.{kept_if, filter-IsMap, find-filter}
+use Rattle.catalogue.proofs.EditStampOrderLemmas.{not_lt_trans}
+use Rattle.catalogue.proofs.EntriesFilteredLemmas.{kept_if, filter-IsMap, find-filter}
 
 -- what was not sent changes nothing
 unsent : (own : Option Cell) (known : Option Stamp) (c : Cell)

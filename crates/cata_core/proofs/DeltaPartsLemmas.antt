@@ -5,8 +5,8 @@ use Rattle.std.specs.FinMap.Entries.{find}
 use Rattle.cell_core.specs.Entry.{key_cmp}
 use Rattle.catalogue.specs.Entries.{Entries}
 use Rattle.cata_core.specs.Delta.{Stamps, summary_of, is_missing, delta_of}
-use Rattle.catalogue.specs.Parts.{part_of}
-use Rattle.catalogue.proofs.PartsLemmas.{find-part}
+use Rattle.catalogue.specs.CatalogueParts.{part_of}
+use Rattle.catalogue.proofs.CataloguePartsLemmas.{find-part}
 
 -- The part of a delta is the delta of the part against the part of the summary.
 pub part_of_delta : (messages : List ℕ → Bool) (cells : Entries) (summary : Stamps)

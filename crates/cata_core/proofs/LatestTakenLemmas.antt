@@ -11,12 +11,13 @@ use Rattle.cell_core.specs.Stamp.{stamp_cmp}
 use Rattle.cell_core.specs.Entry.{EntryKey, key_cmp, key_cmp_exact}
 use Rattle.catalogue.specs.Entries.{Entry, Entries}
 use Rattle.catalogue.specs.Edits.{is_best, entries_of, catalogue_of}
-use Rattle.catalogue.specs.Latest.{latest_of, IsLatest}
+use Rattle.catalogue.specs.CatalogueLatest.{latest_of, IsLatest}
 use Rattle.catalogue.proofs.Basics.{some_same}
-use Rattle.catalogue.proofs.MembersLemmas.{In, in_from_Contains, Contains-from_in, in_filter}
-use Rattle.catalogue.proofs.StampOrderLemmas.{not_less_trans}
+use Rattle.catalogue.proofs.CatalogueMembersLemmas.{In, in_from_Contains, Contains-from_in}
+use Rattle.catalogue.proofs.CatalogueMembersLemmas.{in_filter}
+use Rattle.catalogue.proofs.EditStampOrderLemmas.{not_less_trans}
 use Rattle.catalogue.proofs.CatalogueLemmas.{found_best, has_cell}
-use Rattle.catalogue.proofs.LatestLemmas.{latest_is}
+use Rattle.catalogue.proofs.CatalogueLatestLemmas.{latest_is}
 
 -- what is in a map after a put was put, or was there before
 in_put : (k : EntryKey) (c : Cell) (es : Entries) (x : Entry) → In (put key_cmp k c es) x

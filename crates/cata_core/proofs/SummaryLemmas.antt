@@ -18,11 +18,11 @@ use Rattle.catalogue.specs.Entries.{joined, IsBelowCells}
 use Rattle.catalogue.specs.Edits.{catalogue_of}
 use Rattle.cata_core.specs.Delta.{Stamps, summary_of, HasAll, HasAtLeast, IsBelowStamps}
 use Rattle.catalogue.proofs.Basics.{not_less_of}
-use Rattle.catalogue.proofs.StampOrderLemmas.{not_less_self, not_less_back, not_less_trans}
-use Rattle.catalogue.proofs.StampOrderLemmas.{same_stamp}
-use Rattle.catalogue.proofs.MembersLemmas.{In, Contains-from_in}
-use Rattle.catalogue.proofs.BestLemmas.{best_in}
-use Rattle.catalogue.proofs.MappedLemmas.{mapped-IsMap, find-mapped}
+use Rattle.catalogue.proofs.EditStampOrderLemmas.{not_less_self, not_less_back, not_less_trans}
+use Rattle.catalogue.proofs.EditStampOrderLemmas.{same_stamp}
+use Rattle.catalogue.proofs.CatalogueMembersLemmas.{In, Contains-from_in}
+use Rattle.catalogue.proofs.CatalogueBestLemmas.{best_in}
+use Rattle.catalogue.proofs.ChangesMappedLemmas.{mapped-IsMap, find-mapped}
 use Rattle.catalogue.proofs.CatalogueLemmas.{catalogue_of-IsMap, found_best, has_cell}
 use Rattle.lang_core.proofs.Basics.{less_of}
 

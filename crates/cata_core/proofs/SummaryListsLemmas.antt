@@ -12,8 +12,8 @@ use Rattle.cell_core.specs.Keyed.{IsMap}
 use Rattle.cata_core.specs.declared.summary.SummaryEntry.{SummaryEntry}
 use Rattle.cell_core.specs.Entry.{EntryKey, key_cmp, key_cmp_total, key_cmp_exact}
 use Rattle.cata_core.specs.Summary.{stamps_of}
-use Rattle.catalogue.proofs.FilteredLemmas.{find-below}
-use Rattle.catalogue.proofs.KeyPlacesLemmas.{below_lesser}
+use Rattle.catalogue.proofs.EntriesFilteredLemmas.{find-below}
+use Rattle.catalogue.proofs.PlacesKeyLemmas.{below_lesser}
 use Rattle.cell_core.proofs.Basics.{first_part, both_parts}
 
 -- An entry pushed to a summary adds its key and stamp to the summary's.

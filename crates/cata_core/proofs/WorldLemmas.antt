@@ -16,8 +16,8 @@ use Rattle.cell_core.specs.Entry.{key_cmp}
 use Rattle.catalogue.specs.Entries.{Entries, Agree, joined, catalogue_laws}
 use Rattle.catalogue.specs.Clash.{IsFirstClash}
 use Rattle.cata_core.specs.Delta.{summary_of, delta_of}
-use Rattle.cata_core.specs.Held.{ToldStamps, PostedCells, Held, joins, held_step, cells_in}
-use Rattle.cata_core.specs.Held.{cells_delivered, delta_to}
+use Rattle.cata_core.specs.WorldHeld.{ToldStamps, PostedCells, Held, joins, held_step, cells_in}
+use Rattle.cata_core.specs.WorldHeld.{cells_delivered, delta_to}
 use Rattle.cata_core.specs.PlayFault.{IsSound, AgreesWith, IsFaultOf}
 use Rattle.cata_core.specs.World.{at_sites, IsClashAt}
 use Rattle.catalogue.proofs.Basics.{append_nil}

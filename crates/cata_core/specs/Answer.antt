@@ -8,8 +8,8 @@ use Rattle.catalogue.specs.declared.reply.Reply.{Reply}
 use Rattle.catalogue.specs.Entries.{Entries}
 use Rattle.catalogue.specs.Asking.{Weighed, IsFilterAnswer, IsLookupAnswer}
 use Rattle.catalogue.specs.Edits.{catalogue_of}
-use Rattle.cata_core.specs.Taken.{taken}
-use Rattle.cata_core.specs.Held.{held}
+use Rattle.cata_core.specs.RunsTaken.{taken}
+use Rattle.cata_core.specs.WorldHeld.{held}
 
 -- all cells, as edits
 abbrev pub cells_answer : Entries → Answer

@@ -11,8 +11,8 @@ use Rattle.cell_core.specs.Entry.{key_cmp}
 use Rattle.catalogue.specs.Entries.{Entries, Agree}
 use Rattle.catalogue.specs.Clash.{IsFirstClash}
 use Rattle.catalogue.specs.Edits.{IsSettled}
-use Rattle.cata_core.specs.Taken.{edits_in, taken, taken_after, nothing_taken}
-use Rattle.cata_core.specs.Held.{Held, cells_in, held, held_after, nothing_held}
+use Rattle.cata_core.specs.RunsTaken.{edits_in, taken, taken_after, nothing_taken}
+use Rattle.cata_core.specs.WorldHeld.{Held, cells_in, held, held_after, nothing_held}
 
 -- the number of a refusal among all refusals
 abbrev pub number_of : PlayFault → ℕ

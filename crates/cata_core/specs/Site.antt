@@ -11,7 +11,7 @@ use Rattle.cata_core.specs.declared.delta.Delta.{Delta}
 use Rattle.catalogue.specs.CataFault.{IsRefusal, IsLeft}
 use Rattle.catalogue.specs.Entries.{Entries}
 use Rattle.catalogue.specs.Equality.{entries_eq, entries_equiv}
-use Rattle.catalogue.specs.Latest.{latest_of}
+use Rattle.catalogue.specs.CatalogueLatest.{latest_of}
 
 -- a site, by its name and its catalogue
 pub record SiteState : Type 0 where

@@ -8,7 +8,7 @@ use Rattle.cata_core.specs.declared.runs.world.World.{World}
 use Rattle.cell_core.specs.Entry.{key_cmp}
 use Rattle.catalogue.specs.Entries.{Entries}
 use Rattle.catalogue.specs.Clash.{IsFirstClash}
-use Rattle.cata_core.specs.Held.{Held, held_step}
+use Rattle.cata_core.specs.WorldHeld.{Held, held_step}
 use Rattle.cata_core.specs.Answer.{IsAnswered}
 use Rattle.cata_core.specs.PlayFault.{IsSound}
 

@@ -187,7 +187,7 @@ impl Answers {
 /// Lists of answers are equal where their answers are.
 impl PartialEq for Answers {
     ghost use Rattle.std.specs.Cmp as laws_of;
-    ghost use Rattle.cata_core.specs.AnswersEq.{answers_eq, answers_equiv};
+    ghost use Rattle.cata_core.specs.AnswerEq.{answers_eq, answers_equiv};
 
     ghost eq = { answers_eq };
 
@@ -199,7 +199,7 @@ impl PartialEq for Answers {
 }
 
 impl Eq for Answers {
-    ghost use Rattle.cata_core.specs.AnswersEq.{answers_equiv};
+    ghost use Rattle.cata_core.specs.AnswerEq.{answers_equiv};
 
     ghost laws = { answers_equiv };
 }

@@ -3,7 +3,7 @@
 ghost use Rattle.std.specs.Prelude.{◌≡◌, Some};
 ghost use Rattle.cell_core.specs.Cell.{joined_stamps};
 ghost use Rattle.cell_core.specs.Keyed.{joined_if_both};
-ghost use Rattle.catalogue.specs.Latest.{latest_of};
+ghost use Rattle.catalogue.specs.CatalogueLatest.{latest_of};
 
 use catalogue::Catalogue;
 use cell_core::Stamp;
@@ -18,7 +18,7 @@ pub(crate) enum Latest {
 }
 
 impl Latest {
-    ghost use Rattle.cata_core.specs.KnownLatest.{IsKnownLatest, known_with};
+    ghost use Rattle.cata_core.specs.LatestKnown.{IsKnownLatest, known_with};
 
     /// The latest stamp of these cells, of which this is known.
     pub(crate) fn of(self, catalogue: &Catalogue) -> Option<Stamp>

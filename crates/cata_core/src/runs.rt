@@ -3,7 +3,7 @@
 ghost use Rattle.std.specs.Prelude.{◌≡◌, ◌⊎◌, ◌≤◌, IfOk, IfErr, OnOk};
 ghost use Rattle.cata_core.specs.declared.play_fault.PlayFault.TheVariants.{NoMemory};
 ghost use Rattle.catalogue.specs.Edits.{IsConsistent};
-ghost use Rattle.cata_core.specs.Taken.{edits_of};
+ghost use Rattle.cata_core.specs.RunsTaken.{edits_of};
 ghost use Rattle.cata_core.specs.Answer.{AreHeldAnswers, AreAnswers};
 ghost use Rattle.cata_core.specs.PlayFault.{NoneFaulty, IsFirstFault, IsNoClash, NoDelivers};
 

@@ -9,8 +9,8 @@ ghost use Rattle.catalogue.specs.CataFault.{IsRefusal, IsLeft};
 ghost use Rattle.cata_core.specs.Delta.{summary_of, delta_of};
 ghost use Rattle.cell_core.specs.Entry.{key_cmp};
 ghost use Rattle.catalogue.specs.Entries.{Agree, joined, Between};
-ghost use Rattle.catalogue.specs.Latest.{latest_of, IsLatest};
-ghost use Rattle.catalogue.specs.Settled.{IsSettledIn};
+ghost use Rattle.catalogue.specs.CatalogueLatest.{latest_of, IsLatest};
+ghost use Rattle.catalogue.specs.CatalogueSettled.{IsSettledIn};
 ghost use Rattle.cata_core.specs.Site.{site_eq, site_equiv};
 
 use crate::delta::{Delta, missing_cells};
@@ -31,7 +31,7 @@ pub struct Site {
 }
 
 impl Model for Site {
-    ghost use Rattle.cata_core.specs.KnownLatest.{IsKnownLatest};
+    ghost use Rattle.cata_core.specs.LatestKnown.{IsKnownLatest};
     ghost use Rattle.cata_core.specs.Site.{SiteState};
 
     ghost Value = { SiteState };
@@ -42,7 +42,7 @@ impl Model for Site {
 }
 
 impl Site {
-    ghost use Rattle.cata_core.specs.KnownLatest.{IsKnownLatest};
+    ghost use Rattle.cata_core.specs.LatestKnown.{IsKnownLatest};
     ghost use Rattle.cata_core.specs.Site.{SiteState, RefusesEdit, RefusesDelta, IsLeftSite};
     ghost use Rattle.cata_core.specs.Summary.{SummaryState};
 

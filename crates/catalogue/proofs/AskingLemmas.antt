@@ -7,7 +7,7 @@ use Rattle.list_core.specs.declared.scheme.Scheme.{Scheme}
 use Rattle.nego_core.specs.declared.widening.Widening.{Widening}
 use Rattle.nego_core.specs.declared.widening.Widening.TheVariants.{Off, By}
 use Rattle.nego_core.proofs.FilteringLemmas.{one_filtered}
-use Rattle.nego_core.proofs.LookupCandidatesLemmas.{one_lookup}
+use Rattle.nego_core.proofs.ChoosingCandidatesLemmas.{one_lookup}
 use Rattle.nego_core.proofs.WideningLemmas.{one_widened}
 use Rattle.catalogue.specs.declared.reply.Reply.{Reply}
 use Rattle.catalogue.specs.declared.reply.Reply.TheVariants.{Matched, Default, Nothing}

@@ -13,9 +13,9 @@ use Rattle.catalogue.specs.Entries.{Entry, joined}
 use Rattle.catalogue.specs.Edits.{catalogue_of, IsSettled}
 use Rattle.lang_core.proofs.Basics.{less_of}
 use Rattle.catalogue.proofs.Basics.{not_less_of}
-use Rattle.catalogue.proofs.StampOrderLemmas.{not_less_back}
-use Rattle.catalogue.proofs.MembersLemmas.{in_append_cases}
-use Rattle.catalogue.proofs.BestLemmas.{best_in, best_of_first, best_of_second, above_best}
+use Rattle.catalogue.proofs.EditStampOrderLemmas.{not_less_back}
+use Rattle.catalogue.proofs.CatalogueMembersLemmas.{in_append_cases}
+use Rattle.catalogue.proofs.CatalogueBestLemmas.{best_in, best_of_first, best_of_second, above_best}
 use Rattle.catalogue.proofs.CatalogueLemmas.{catalogue_of-IsMap, found_best, best_found, none_in}
 
 module _ (xs ys : List Entry) (settled : IsSettled (xs ++ ys)) (k : EntryKey) where

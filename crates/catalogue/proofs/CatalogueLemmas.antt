@@ -11,9 +11,10 @@ use Rattle.cell_core.specs.Entry.{EntryKey, key_cmp, key_cmp_total, key_cmp_exac
 use Rattle.catalogue.specs.Entries.{Entry}
 use Rattle.catalogue.specs.Edits.{IsBest, is_best, entries_of, catalogue_of, IsSettled, SameMembers}
 use Rattle.catalogue.proofs.Basics.{some_same}
-use Rattle.catalogue.proofs.MembersLemmas.{In, in_filter, filter_in}
-use Rattle.catalogue.proofs.BestLemmas.{same_key, own_key, best_is, is_best_of, best_in, best_same}
-use Rattle.catalogue.proofs.BestLemmas.{has_best}
+use Rattle.catalogue.proofs.CatalogueMembersLemmas.{In, in_filter, filter_in}
+use Rattle.catalogue.proofs.CatalogueBestLemmas.{same_key, own_key, best_is, is_best_of, best_in}
+use Rattle.catalogue.proofs.CatalogueBestLemmas.{best_same}
+use Rattle.catalogue.proofs.CatalogueBestLemmas.{has_best}
 
 entries_of-IsMap : (es : List Entry) → IsMap key_cmp (entries_of es)
 entries_of-IsMap [] = tt

@@ -6,7 +6,7 @@ use Rattle.std.specs.FinMap.Entries.{find}
 use Rattle.cell_core.specs.declared.cell.Cell.{Cell}
 use Rattle.cell_core.specs.declared.stamp.Stamp.{Stamp}
 use Rattle.cell_core.specs.Keyed.{IsMap}
-use Rattle.cell_core.specs.Places.{place_of}
+use Rattle.cell_core.specs.KeyedPlaces.{place_of}
 use Rattle.catalogue.specs.declared.cell_refusal.CellRefusal.{CellRefusal}
 use Rattle.catalogue.specs.declared.cell_refusal.CellRefusal.TheVariants.{Clash, NoMemory}
 use Rattle.catalogue.specs.CataFault.{IsRefusal}
@@ -14,8 +14,8 @@ use Rattle.catalogue.specs.CellRefusal.{IsCellRefusal, at_place}
 use Rattle.catalogue.specs.Clash.{IsFirstClash}
 use Rattle.cell_core.specs.Entry.{key_cmp}
 use Rattle.catalogue.specs.Entries.{Entry, Entries, Agree}
-use Rattle.catalogue.specs.Settled.{IsSettledBy}
-use Rattle.catalogue.proofs.ApplyLemmas.{agree_some, agree_none, first_clash_only}
+use Rattle.catalogue.specs.CatalogueSettled.{IsSettledBy}
+use Rattle.catalogue.proofs.CatalogueApplyLemmas.{agree_some, agree_none, first_clash_only}
 
 -- A cell that clashes with the stored one is the first clash of its edit with the catalogue.
 pub clash_refused : (es : Entries) (e : Entry) (o : Option Cell) (place : ℕ) (stamp : Stamp)

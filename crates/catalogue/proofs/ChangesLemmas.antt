@@ -21,15 +21,16 @@ use Rattle.catalogue.specs.ChangesLeft.{side_by_side, differing}
 use Rattle.cell_core.specs.Entry.{EntryKey, key_cmp, key_cmp_total, key_cmp_exact}
 use Rattle.catalogue.specs.Entries.{Entry, Entries}
 use Rattle.catalogue.specs.Equality.{cell_eq}
-use Rattle.catalogue.specs.Parts.{part_of}
+use Rattle.catalogue.specs.CatalogueParts.{part_of}
 use Rattle.cell_core.proofs.Basics.{both_parts, first_part, second_part, tied_order as tied}
 use Rattle.lang_core.proofs.Basics.{is_false as false_if}
 use Rattle.catalogue.proofs.Basics.{some_same}
-use Rattle.catalogue.proofs.FilteredLemmas.{find-below, below_tied_all, filter-IsMap, find-filter}
-use Rattle.catalogue.proofs.FilteredLemmas.{kept_if}
-use Rattle.catalogue.proofs.KeyPlacesLemmas.{below_lesser}
-use Rattle.catalogue.proofs.MappedLemmas.{find-mapped, mapped-IsMap}
-use Rattle.catalogue.proofs.PartsLemmas.{find-part}
+use Rattle.catalogue.proofs.EntriesFilteredLemmas.{find-below, below_tied_all, filter-IsMap}
+use Rattle.catalogue.proofs.EntriesFilteredLemmas.{find-filter}
+use Rattle.catalogue.proofs.EntriesFilteredLemmas.{kept_if}
+use Rattle.catalogue.proofs.PlacesKeyLemmas.{below_lesser}
+use Rattle.catalogue.proofs.ChangesMappedLemmas.{find-mapped, mapped-IsMap}
+use Rattle.catalogue.proofs.CataloguePartsLemmas.{find-part}
 
 -- ---- equal cells
 

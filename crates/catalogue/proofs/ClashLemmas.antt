@@ -15,7 +15,7 @@ use Rattle.catalogue.specs.Entries.{Entries, Agree}
 use Rattle.catalogue.specs.Clash.{IsFirstClash}
 use Rattle.cell_core.proofs.Basics.{first_part, second_part, less_than}
 use Rattle.catalogue.proofs.Basics.{some_same}
-use Rattle.catalogue.proofs.BestLemmas.{own_key}
+use Rattle.catalogue.proofs.CatalogueBestLemmas.{own_key}
 
 -- a key below all is none of theirs
 apart_below : (x : EntryKey) (es : Entries) (place : ℕ) (k : EntryKey) (c : Cell)

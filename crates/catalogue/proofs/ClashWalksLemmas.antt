@@ -15,18 +15,18 @@ use Rattle.cell_core.specs.declared.cell.Cell.{Cell}
 use Rattle.cell_core.specs.declared.stamp.Stamp.{Stamp}
 use Rattle.cell_core.specs.Cell.{AgreeCells}
 use Rattle.cell_core.specs.Keyed.{IsMap, AgreeMaps, AgreeIfBoth}
-use Rattle.cell_core.specs.Places.{place_of}
+use Rattle.cell_core.specs.KeyedPlaces.{place_of}
 use Rattle.cell_core.specs.Entry.{EntryKey, text_cmp, key_cmp, key_cmp_total, key_cmp_exact}
 use Rattle.catalogue.specs.Entries.{Entry, Agree}
-use Rattle.catalogue.specs.Flat.{under, flat, found_in}
-use Rattle.catalogue.specs.Nested.{Inner, Nested, IsCatalogue, IsCountable}
+use Rattle.catalogue.specs.CatalogueFlat.{under, flat, found_in}
+use Rattle.catalogue.specs.CatalogueNested.{Inner, Nested, IsCatalogue, IsCountable}
 use Rattle.catalogue.specs.Clash.{AgreesAt, IsFirstClash}
 use Rattle.catalogue.proofs.Basics.{some_same}
-use Rattle.catalogue.proofs.FlatLemmas.{find-flat}
-use Rattle.catalogue.proofs.NestedCataloguesLemmas.{IsMap-catalogue}
-use Rattle.catalogue.proofs.KeyPlacesLemmas.{stands_at_place}
-use Rattle.catalogue.proofs.LengthsLemmas.{length-under}
-use Rattle.catalogue.proofs.NestedPlacesLemmas.{with_outer}
+use Rattle.catalogue.proofs.CatalogueFlatLemmas.{find-flat}
+use Rattle.catalogue.proofs.CatalogueNestedLemmas.{IsMap-catalogue}
+use Rattle.catalogue.proofs.PlacesKeyLemmas.{stands_at_place}
+use Rattle.catalogue.proofs.CatalogueLengthsLemmas.{length-under}
+use Rattle.catalogue.proofs.PlacesNestedLemmas.{with_outer}
 
 -- ---- what follows a place
 

@@ -9,15 +9,15 @@ use Rattle.std.specs.Cmp.Lexicographic.{nat_list_cmp_total}
 use Rattle.std.specs.FinMap.Entries.{find, below_all, is_sorted}
 use Rattle.cell_core.specs.declared.cell.Cell.{Cell}
 use Rattle.cell_core.specs.Keyed.{IsMap}
-use Rattle.catalogue.specs.Flat.{under, flat, inner_of}
+use Rattle.catalogue.specs.CatalogueFlat.{under, flat, inner_of}
 use Rattle.cell_core.specs.Entry.{text_cmp}
 use Rattle.catalogue.specs.Entries.{Entry, Entries}
-use Rattle.catalogue.specs.Nested.{Nested}
-use Rattle.cell_core.specs.Found.{with_key}
+use Rattle.catalogue.specs.CatalogueNested.{Nested}
+use Rattle.cell_core.specs.KeyedFound.{with_key}
 use Rattle.catalogue.specs.Live.{of_message, labelled, live_of, live}
 use Rattle.cell_core.proofs.Basics.{first_part, second_part, tied_order as tied}
 use Rattle.catalogue.proofs.Basics.{append_nil, some_same}
-use Rattle.catalogue.proofs.FilteredLemmas.{find-below, below_tied_all}
+use Rattle.catalogue.proofs.EntriesFilteredLemmas.{find-below, below_tied_all}
 
 -- ---- the cells of a message
 

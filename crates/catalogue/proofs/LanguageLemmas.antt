@@ -20,7 +20,7 @@ use Rattle.catalogue.specs.Languages.{AddsLanguage, AreLanguages, LanguageMap, i
 use Rattle.catalogue.specs.Languages.{texts_in}
 use Rattle.catalogue.specs.Live.{Labelled, languages, live, live_of}
 use Rattle.cell_core.proofs.Basics.{tied_order as tied}
-use Rattle.catalogue.proofs.NestedCataloguesLemmas.{text_exact}
+use Rattle.catalogue.proofs.CatalogueNestedLemmas.{text_exact}
 
 -- ---- a language more
 

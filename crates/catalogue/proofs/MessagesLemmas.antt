@@ -16,17 +16,17 @@ use Rattle.catalogue.specs.declared.reply.Reply.TheVariants.{Matched, Default, N
 use Rattle.catalogue.specs.Asking.{IsLookedUpIn, IsLookupAnswerBy}
 use Rattle.cell_core.specs.Entry.{text_cmp}
 use Rattle.catalogue.specs.Entries.{Entries}
-use Rattle.catalogue.specs.Flat.{flat, inner_of}
+use Rattle.catalogue.specs.CatalogueFlat.{flat, inner_of}
 use Rattle.catalogue.specs.Live.{Labelled, live_of, live}
 use Rattle.catalogue.specs.LiveMessages.{LiveMessage, if_any, AreMessages}
 use Rattle.catalogue.specs.Messages.{with_live, live_messages}
-use Rattle.catalogue.specs.Nested.{Inner, Nested, IsCatalogue}
+use Rattle.catalogue.specs.CatalogueNested.{Inner, Nested, IsCatalogue}
 use Rattle.cell_core.proofs.Basics.{first_part, second_part, both_parts, tied_order as tied}
 use Rattle.catalogue.proofs.Basics.{some_same}
-use Rattle.catalogue.proofs.FilteredLemmas.{find-below, below_tied_all}
-use Rattle.catalogue.proofs.FlatLemmas.{found_inner}
+use Rattle.catalogue.proofs.EntriesFilteredLemmas.{find-below, below_tied_all}
+use Rattle.catalogue.proofs.CatalogueFlatLemmas.{found_inner}
 use Rattle.catalogue.proofs.LabelsLemmas.{live-flat}
-use Rattle.catalogue.proofs.NestedCataloguesLemmas.{text_exact}
+use Rattle.catalogue.proofs.CatalogueNestedLemmas.{text_exact}
 
 below-live_messages : (x : List ℕ) (es : Nested) → T (below_all text_cmp x es)
     → T (below_all text_cmp x (live_messages es))

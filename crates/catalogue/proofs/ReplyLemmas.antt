@@ -8,8 +8,8 @@ use Rattle.std.specs.FinMap.Entries.{find}
 use Rattle.std.proofs.lemmas.List.Splits.{join_with_byte-slice_split}
 use Rattle.lang_core.specs.Text.{pieces_by, pieces, joined}
 use Rattle.cell_core.specs.Entry.{text_cmp}
-use Rattle.cell_core.specs.Found.{with_key}
-use Rattle.catalogue.specs.Lent.{lent_pair}
+use Rattle.cell_core.specs.KeyedFound.{with_key}
+use Rattle.catalogue.specs.ReplyBorrowed.{lent_pair}
 use Rattle.catalogue.specs.Live.{Labelled, is_live}
 
 -- Splitting a text at its hyphens and joining the pieces gives the text back.

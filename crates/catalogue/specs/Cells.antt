@@ -4,7 +4,7 @@ use Rattle.cell_core.specs.Iter.{entries_left}
 use Rattle.catalogue.specs.declared.cells.Cells.{Cells}
 use Rattle.catalogue.specs.declared.cells.MessageCells.{MessageCells}
 use Rattle.catalogue.specs.Entries.{Entries}
-use Rattle.catalogue.specs.Flat.{under, flat}
+use Rattle.catalogue.specs.CatalogueFlat.{under, flat}
 
 -- the cells left of one message
 abbrev pub message_left : MessageCells → Entries

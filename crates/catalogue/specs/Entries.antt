@@ -1,11 +1,11 @@
 -- Catalogues as lists of entries in ascending order of key.
 use Rattle.std.specs.Prelude.{List}
-use Rattle.cell_core.specs.Above.{IsAboveAll as IsAboveAllBy}
+use Rattle.cell_core.specs.KeyedAbove.{IsAboveAll as IsAboveAllBy}
 use Rattle.cell_core.specs.Entry.{EntryKey, key_cmp, key_cmp_total, key_cmp_exact}
 use Rattle.cell_core.specs.declared.cell.Cell.{Cell}
 use Rattle.cell_core.specs.Join.{JoinLaws, IsBelow}
 use Rattle.cell_core.specs.Cell.{AgreeCells, joined_cells, cell_laws}
-use Rattle.cell_core.specs.Later.{IsEitherOf}
+use Rattle.cell_core.specs.StampLater.{IsEitherOf}
 use Rattle.cell_core.specs.Keyed.{AgreeMaps, joined_maps, BetweenMaps}
 use Rattle.cell_core.specs.KeyedLaws.{map_laws}
 

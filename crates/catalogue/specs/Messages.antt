@@ -5,7 +5,7 @@ use Rattle.std.specs.Option.{option_map}
 use Rattle.cell_core.specs.Iter.{entries_left}
 use Rattle.catalogue.specs.declared.messages.Messages.{Messages}
 use Rattle.catalogue.specs.Live.{live_of}
-use Rattle.catalogue.specs.Nested.{Inner, Nested}
+use Rattle.catalogue.specs.CatalogueNested.{Inner, Nested}
 use Rattle.catalogue.specs.LiveMessages.{LiveMessage, if_any}
 
 -- a message with its live labels, where it has any

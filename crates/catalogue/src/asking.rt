@@ -8,7 +8,7 @@ ghost use Rattle.catalogue.specs.Live.{live, languages};
 ghost use Rattle.nego_core.specs.Filtering.{texts_of};
 ghost use Rattle.catalogue.specs.Labels.{labels_left};
 ghost use Rattle.catalogue.specs.LiveIn.{live_in};
-ghost use Rattle.catalogue.specs.LentEntries.{labelled_of};
+ghost use Rattle.catalogue.specs.EntriesBorrowed.{labelled_of};
 ghost use Rattle.catalogue.specs.Reply.{reply_of};
 ghost use Rattle.catalogue.specs.Asking.{IsFilterAnswer, IsLookupAnswer, IsLookupAnswerBy};
 ghost use Rattle.catalogue.specs.LiveMessages.{AreMessages};

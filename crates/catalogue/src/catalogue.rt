@@ -6,18 +6,18 @@ ghost use Rattle.std.specs.Option.{option_map, option_copied, is_none};
 ghost use Rattle.std.specs.FinMap.Entries.{find, put};
 ghost use Rattle.cell_core.specs.Cell.{AgreeCells, joined_cells};
 ghost use Rattle.cell_core.specs.Keyed.{IsMap, AgreeIfBoth, joined_at};
-ghost use Rattle.cell_core.specs.Places.{place_of};
+ghost use Rattle.cell_core.specs.KeyedPlaces.{place_of};
 ghost use Rattle.catalogue.specs.CataFault.{IsRefusal, IsLeft};
 ghost use Rattle.catalogue.specs.CellRefusal.{IsCellRefusal, at_place};
 ghost use Rattle.catalogue.specs.Cells.{cells_left};
 ghost use Rattle.catalogue.specs.Changes.{AreChanges};
 ghost use Rattle.catalogue.specs.ChangesLeft.{changes_left};
-ghost use Rattle.catalogue.specs.Counts.{count_absent};
+ghost use Rattle.catalogue.specs.CatalogueCounts.{count_absent};
 ghost use Rattle.cell_core.specs.Entry.{text_cmp, key_cmp};
 ghost use Rattle.catalogue.specs.Entries.{IsAboveAll, Agree, joined, Between};
-ghost use Rattle.catalogue.specs.Flat.{flat};
-ghost use Rattle.catalogue.specs.Nested.{IsCatalogue, IsCountable};
-ghost use Rattle.catalogue.specs.Settled.{IsSettledBy, IsSettledIn};
+ghost use Rattle.catalogue.specs.CatalogueFlat.{flat};
+ghost use Rattle.catalogue.specs.CatalogueNested.{IsCatalogue, IsCountable};
+ghost use Rattle.catalogue.specs.CatalogueSettled.{IsSettledBy, IsSettledIn};
 
 use crate::cata_fault::CataFault;
 use crate::cell_refusal::CellRefusal;
@@ -48,8 +48,8 @@ pub struct Catalogue {
 
 impl Model for Catalogue {
     ghost use Rattle.catalogue.specs.Entries.{Entries};
-    ghost use Rattle.catalogue.specs.Flat.{flat};
-    ghost use Rattle.catalogue.specs.Nested.{IsKept};
+    ghost use Rattle.catalogue.specs.CatalogueFlat.{flat};
+    ghost use Rattle.catalogue.specs.CatalogueNested.{IsKept};
 
     ghost Value = { Entries };
 

@@ -15,7 +15,7 @@ pub struct Cells<'a> {
 
 impl<'a> Cells<'a> {
     ghost use Rattle.std.specs.Prelude.{◌≡◌};
-    ghost use Rattle.catalogue.specs.Flat.{flat};
+    ghost use Rattle.catalogue.specs.CatalogueFlat.{flat};
     ghost use Rattle.catalogue.specs.Cells.{cells_left};
 
     /// All cells of a map of maps, in rising order of key.

@@ -1,10 +1,10 @@
 //! Where two catalogues do not agree.
 
 ghost use Rattle.std.specs.Prelude.{ℕ, ◌<◌, MatchOption, length};
-ghost use Rattle.catalogue.specs.Flat.{flat};
+ghost use Rattle.catalogue.specs.CatalogueFlat.{flat};
 ghost use Rattle.cell_core.specs.Entry.{text_cmp, key_cmp};
 ghost use Rattle.catalogue.specs.Entries.{Agree};
-ghost use Rattle.catalogue.specs.Nested.{IsCatalogue, IsCountable};
+ghost use Rattle.catalogue.specs.CatalogueNested.{IsCatalogue, IsCountable};
 ghost use Rattle.catalogue.specs.Clash.{AgreesAt, IsFirstClash};
 
 use cell_core::{Cell, Join, Keyed, MessageId, Stamp};

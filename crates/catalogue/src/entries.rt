@@ -3,7 +3,7 @@
 ghost use Rattle.std.specs.Prelude.{◌≡◌, length, slice_get, IfOk, IsTrue, ◌↔◌, []};
 ghost use Rattle.catalogue.specs.Asking.{picked, with_weight};
 ghost use Rattle.std.specs.Slice.Iter.{iter_rest};
-ghost use Rattle.catalogue.specs.LentEntries.{lent_weighed, labelled_of, weighed_of};
+ghost use Rattle.catalogue.specs.EntriesBorrowed.{lent_weighed, labelled_of, weighed_of};
 
 use cell_core::Label;
 use lang_core::Lang;
@@ -21,7 +21,7 @@ pub struct LentEntries<'a> {
 
 impl<'a> Model for LentEntries<'a> {
     ghost use Rattle.catalogue.specs.Asking.{Weighed};
-    ghost use Rattle.catalogue.specs.LentEntries.{weighed_of};
+    ghost use Rattle.catalogue.specs.EntriesBorrowed.{weighed_of};
 
     ghost Value = { Weighed };
 

@@ -7,8 +7,8 @@ ghost use Rattle.catalogue.specs.Live.{languages, live_of};
 ghost use Rattle.catalogue.specs.Labels.{labels_left};
 ghost use Rattle.nego_core.specs.WidenedChoice.{MatchEarliest};
 ghost use Rattle.std.specs.Option.{option_map};
-ghost use Rattle.cell_core.specs.Found.{with_key};
-ghost use Rattle.catalogue.specs.Lent.{lent_pair};
+ghost use Rattle.cell_core.specs.KeyedFound.{with_key};
+ghost use Rattle.catalogue.specs.ReplyBorrowed.{lent_pair};
 
 use crate::labels::Labels;
 use crate::reply::LentReply;
@@ -28,7 +28,7 @@ pub(crate) struct Live<'a> {
 impl<'a> Live<'a> {
     ghost use Rattle.std.specs.Option.{option_copied};
     ghost use Rattle.catalogue.specs.Asking.{IsChosenIn, IsLookedUpIn};
-    ghost use Rattle.catalogue.specs.Flat.{inner_of};
+    ghost use Rattle.catalogue.specs.CatalogueFlat.{inner_of};
     ghost use Rattle.catalogue.specs.Reply.{reply_of};
     ghost use Rattle.catalogue.specs.LiveIn.{live_in};
     ghost use Rattle.catalogue.specs.LiveReplies.{IsReplyTo};

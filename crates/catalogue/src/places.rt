@@ -2,10 +2,10 @@
 
 ghost use Rattle.std.specs.Prelude.{◌≡◌, ◌-◌, length, slice_get};
 ghost use Rattle.std.specs.Option.{option_map};
-ghost use Rattle.cell_core.specs.Places.{place_of};
-ghost use Rattle.catalogue.specs.Flat.{flat};
+ghost use Rattle.cell_core.specs.KeyedPlaces.{place_of};
+ghost use Rattle.catalogue.specs.CatalogueFlat.{flat};
 ghost use Rattle.cell_core.specs.Entry.{text_cmp, key_cmp};
-ghost use Rattle.catalogue.specs.Nested.{IsCatalogue, IsCountable};
+ghost use Rattle.catalogue.specs.CatalogueNested.{IsCatalogue, IsCountable};
 
 use cell_core::{Cell, Keyed, MessageId};
 use lang_core::Lang;

@@ -11,13 +11,14 @@ use Rattle.std.specs.List.{insert}
 use Rattle.std.specs.FinMap.Entries.{find, put, by_order, is_sorted, below_all, is_sorted-put}
 use Rattle.std.specs.FinMap.Entries.{find-put, find_tied, is_sorted-where_key, find-where_key}
 use Rattle.cell_core.specs.Keyed.{IsMap, joined_if_both}
-use Rattle.cell_core.specs.Places.{place_of}
-use Rattle.cell_core.specs.Missing.{pairs_of, AllGaps, AllFrom, or_other, kept_joined, is_new}
-use Rattle.cell_core.specs.Missing.{IsCommonJoined}
+use Rattle.cell_core.specs.KeyedPlaces.{place_of}
+use Rattle.cell_core.specs.InterleaveMissing.{pairs_of, AllGaps, AllFrom, or_other, kept_joined}
+use Rattle.cell_core.specs.InterleaveMissing.{is_new}
+use Rattle.cell_core.specs.InterleaveMissing.{IsCommonJoined}
 use Rattle.cell_core.proofs.Basics.{first_part, second_part, less_than, some_not_none, tied_order}
-use Rattle.cell_core.proofs.PlaceLemmas.{place_of-le, put_at_gap}
-use Rattle.cell_core.proofs.WalkLemmas.{above, below, above_above, place_rises}
-use Rattle.cell_core.proofs.CommonLemmas.{parts_joined}
+use Rattle.cell_core.proofs.KeyedPlacesLemmas.{place_of-le, put_at_gap}
+use Rattle.cell_core.proofs.KeyedWalkLemmas.{above, below, above_above, place_rises}
+use Rattle.cell_core.proofs.PairsCommonLemmas.{parts_joined}
 
 insert_between : {X : Type 0} (xs ys : List X) (y : X)
     → insert (xs ++ ys) (length xs) y ≡ (xs ++ y ∷ []) ++ ys

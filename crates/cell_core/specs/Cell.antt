@@ -9,8 +9,8 @@ use Rattle.std.proofs.lemmas.Map.Lookups.{exact_pairs, exact_unsigned, exact_byt
 use Rattle.cell_core.specs.declared.stamp.Stamp.{Stamp}
 use Rattle.cell_core.specs.declared.cell.Cell.{Cell}
 use Rattle.cell_core.specs.Join.{JoinLaws}
-use Rattle.cell_core.specs.Later.{later_by, IsEitherOf}
-use Rattle.cell_core.specs.LaterLaws.{later_laws}
+use Rattle.cell_core.specs.StampLater.{later_by, IsEitherOf}
+use Rattle.cell_core.specs.StampLaterLaws.{later_laws}
 use Rattle.cell_core.specs.Stamp.{stamp_cmp}
 
 -- stamps always agree

@@ -6,7 +6,7 @@ use Rattle.std.specs.FinMap.Entries.{find, below_all}
 use Rattle.std.specs.declared.vec.Vec.{Vec}
 use Rattle.cell_core.specs.declared.chunks.Chunks.{Chunks}
 use Rattle.cell_core.specs.Keyed.{IsMap}
-use Rattle.cell_core.specs.Places.{place_of, IsPlace}
+use Rattle.cell_core.specs.KeyedPlaces.{place_of, IsPlace}
 
 -- the entries of all chunks
 abbrev pub all_of : {X Z : Type 0} → List (Vec X Z) → List X

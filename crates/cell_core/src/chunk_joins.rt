@@ -6,7 +6,7 @@ ghost use Rattle.std.specs.FinMap.Entries.{find};
 ghost use Rattle.std.specs.Vec.{vec_len};
 ghost use Rattle.cell_core.specs.Keyed.{IsMap, AgreeIfBoth, BetweenAtKeys, IsJoinedWith};
 ghost use Rattle.cell_core.specs.Chunks.{all_of, entries_of, IsChunked, IsKept, IsRunFor};
-ghost use Rattle.cell_core.specs.Places.{place_of};
+ghost use Rattle.cell_core.specs.KeyedPlaces.{place_of};
 
 use crate::chunks::{Chunks, bisect, chunk_for, cut_if_full};
 use crate::interleave::join_pairs;

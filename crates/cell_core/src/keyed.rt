@@ -7,8 +7,8 @@ ghost use Rattle.std.specs.Option.{option_copied, option_copied_mut, option_map}
 ghost use Rattle.std.specs.Borrow.{LendsIf, sem};
 ghost use Rattle.std.specs.FinMap.Entries.{find, put};
 ghost use Rattle.cell_core.specs.contracts.keyed.Keyed.{the_row};
-ghost use Rattle.cell_core.specs.Above.{IsAboveAll};
-ghost use Rattle.cell_core.specs.Found.{with_key};
+ghost use Rattle.cell_core.specs.KeyedAbove.{IsAboveAll};
+ghost use Rattle.cell_core.specs.KeyedFound.{with_key};
 ghost use Rattle.cell_core.specs.Keyed.{IsMap, AgreeMaps, joined_maps, BetweenMaps};
 ghost use Rattle.cell_core.specs.KeyedLaws.{map_laws};
 

@@ -8,10 +8,10 @@ ghost use Rattle.cell_core.specs.SiteName.{IsSiteName, padded_name};
 ghost use Rattle.cell_core.specs.ZeroPadded.{zero_padded};
 ghost use Rattle.cell_core.specs.Stamp.{stamp_cmp};
 ghost use Rattle.cell_core.specs.Cell.{AgreeStamps, joined_stamps, AgreeCells, joined_cells};
-ghost use Rattle.cell_core.specs.Migration.{OldStamp, IsOldStamp, OldCell, old_stamp_cmp};
-ghost use Rattle.cell_core.specs.Migration.{AgreeOldStamps, joined_old_stamps, AgreeOldCells};
-ghost use Rattle.cell_core.specs.Migration.{joined_old_cells, migrated_stamp, migrated_cell};
-ghost use Rattle.cell_core.specs.Migration.{KeepsJoins};
+ghost use Rattle.cell_core.specs.CellMigration.{OldStamp, IsOldStamp, OldCell, old_stamp_cmp};
+ghost use Rattle.cell_core.specs.CellMigration.{AgreeOldStamps, joined_old_stamps, AgreeOldCells};
+ghost use Rattle.cell_core.specs.CellMigration.{joined_old_cells, migrated_stamp, migrated_cell};
+ghost use Rattle.cell_core.specs.CellMigration.{KeepsJoins};
 
 use crate::stamp::Stamp;
 

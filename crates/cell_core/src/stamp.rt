@@ -4,7 +4,7 @@ ghost use Rattle.std.specs.Prelude.{◌≡◌, ◌∷◌, ◌++◌, Some, MatchR
 ghost use Rattle.std.specs.Fmt.{decimal};
 ghost use Rattle.cell_core.specs.Stamp.{IsNext, NoNext};
 ghost use Rattle.cell_core.specs.Cell.{AgreeStamps, joined_stamps, stamp_laws};
-ghost use Rattle.cell_core.specs.Later.{IsEitherOf};
+ghost use Rattle.cell_core.specs.StampLater.{IsEitherOf};
 
 use crate::fault::CellFault;
 use crate::join::Join;

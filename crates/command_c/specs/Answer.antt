@@ -2,10 +2,10 @@
 use Rattle.std.specs.Prelude.{Bool, true, false, ◌≡◌, ◌⊎◌, ℕ, List, [], codes}
 use Rattle.std_io.specs.declared.io.kind.ErrorKind.{ErrorKind}
 use Rattle.clap.specs.Words.{Text}
-use Rattle.command_core.specs.Endings.{LacksWords}
-use Rattle.command_core.specs.Help.{words_meant}
+use Rattle.command_core.specs.OutputEndings.{LacksWords}
+use Rattle.command_core.specs.ProgramHelp.{words_meant}
 use Rattle.command_core.specs.Program.{RunsBy}
-use Rattle.command_core.specs.Streams.{Reader, streams}
+use Rattle.command_core.specs.OutputStreams.{Reader, streams}
 use Rattle.command_c.specs.Memory.{absent, given, keeps}
 use Rattle.command_c.specs.Words.{AreUtf8, LacksTexts}
 use Rattle.command_c.specs.declared.answer.Reading.{Reading}

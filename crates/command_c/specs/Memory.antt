@@ -1,6 +1,6 @@
 -- Streams in memory (project rules).
 use Rattle.std.specs.Prelude.{ℕ, Bool, false, List, [], ◌∷◌, Option, Some}
-use Rattle.command_core.specs.Streams.{Reader, Writer, reads, writes}
+use Rattle.command_core.specs.OutputStreams.{Reader, Writer, reads, writes}
 
 -- ---- inputs
 

@@ -1,7 +1,7 @@
 //! The command over streams in memory.
 ghost use Rattle.std.specs.Prelude.{◌≡◌, false, map, string_bytes, unwrap_or, IfSome, MatchOption};
 ghost use Rattle.std_io.specs.IoError.{error_kind};
-ghost use Rattle.command_core.specs.Streams.{reads};
+ghost use Rattle.command_core.specs.OutputStreams.{reads};
 ghost use Rattle.command_c.specs.Answer.{Answers, AnswersTexts, IsRefused, Runs, out_of_memory};
 ghost use Rattle.command_c.specs.Answer.{is_read};
 ghost use Rattle.command_c.specs.Memory.{took};

@@ -4,7 +4,7 @@ use Rattle.std.specs.Prelude.{OnOk, is_err}
 use Rattle.std.specs.Io.KnownBytes.{Appends}
 use Rattle.json_docs.specs.Sinks.{AppendsFront}
 use Rattle.command_core.specs.FaultLine.{PrintsFault, PrintsLine, Shows, fault_line}
-use Rattle.command_core.specs.Streams.{Writer}
+use Rattle.command_core.specs.OutputStreams.{Writer}
 
 -- what was written of a line
 pub printed : {S X E : Type 0} (line : List ℕ) (sink : Writer S) (r : Result X E)

@@ -1,7 +1,7 @@
-pub mod ActsLemmas
-pub mod AppLemmas
+pub mod ArgumentsLemmas
 pub mod FaultLineLemmas
-pub mod InputLemmas
 pub mod ProgramLemmas
 pub mod QuestionsLemmas
+pub mod TaskActsLemmas
+pub mod TaskInputLemmas
 pub mod TaskLemmas

@@ -7,10 +7,10 @@ use Rattle.clap.specs.Kinds.{Kinds, HasKind}
 use Rattle.clap.specs.declared.error.Error.{Error}
 use Rattle.clap.specs.declared.error.kind.ErrorKind.TheVariants.{OutOfMemory}
 use Rattle.clap.specs.declared.parser.matches.ArgMatches.{ArgMatches}
-use Rattle.command_core.specs.Endings.{EndsForMemory}
+use Rattle.command_core.specs.OutputEndings.{EndsForMemory}
 use Rattle.command_core.specs.Program.{Does, MatchesBy, ReportsBy, refusal_numerals}
-use Rattle.command_core.specs.Streams.{IsUnread, Streams}
-use Rattle.command_core.specs.Words.{Numerals, Schemes, lexicat_app}
+use Rattle.command_core.specs.OutputStreams.{IsUnread, Streams}
+use Rattle.command_core.specs.ArgumentsWords.{Numerals, Schemes, lexicat_app}
 
 -- That memory ends before clap is called is a possible result of parsing the words.
 pub no_memory : (schemes : Schemes) (numbers : Numerals)

@@ -3,12 +3,12 @@ use Rattle.std.proofs.Common.{◌≡◌, ℕ, List, inl, inr, refl, subst}
 use Rattle.std.specs.Prelude.{Err, MatchResult, Ok, Result}
 use Rattle.cata_core.specs.Site.{SiteState}
 use Rattle.json_docs.specs.Sources.{ReadsWhole}
-use Rattle.site_docs.specs.ReadsAs.{ReadsAsSite}
+use Rattle.site_docs.specs.Reading.{ReadsAsSite}
 use Rattle.front_core.specs.Ask.{RefusesDocument}
 use Rattle.front_core.specs.declared.answer.Answer.{Answer}
 use Rattle.front_core.specs.declared.fault.FrontFault.{FrontFault}
-use Rattle.command_core.specs.Acts.{Asks}
-use Rattle.command_core.specs.Streams.{Reader}
+use Rattle.command_core.specs.TaskActs.{Asks}
+use Rattle.command_core.specs.OutputStreams.{Reader}
 
 module _ {Q : Type 0} (question : Result Q FrontFault) (Reads : Q → Type 0)
     (Refuses : FrontFault → Type 0) (h : MatchResult question Reads Refuses) where

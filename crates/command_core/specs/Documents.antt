@@ -1,14 +1,14 @@
 -- What the commands of documents alone answer, and why they refuse them: as the document calls do
 -- (project rules).
 use Rattle.std.specs.Prelude.{ℕ, Bool, List}
-use Rattle.query_docs.specs.Changed.{IsChanged, RefusesChanged}
+use Rattle.query_docs.specs.Changes.{IsChanged, RefusesChanged}
 use Rattle.docs_core.specs.Calls as call
-use Rattle.docs_core.specs.Exchange as exchange
+use Rattle.docs_core.specs.Importing as exchange
 use Rattle.row_docs.specs.Reading.{IsOfDocument}
-use Rattle.site_docs.specs.ReadsAs.{RefusesSite}
-use Rattle.docs_core.specs.Merged.{IsMerged, RefusesMerge}
+use Rattle.site_docs.specs.Reading.{RefusesSite}
+use Rattle.docs_core.specs.Merging.{IsMerged, RefusesMerge}
 use Rattle.docs_core.specs.TimeLimits.{IsTakenUntil, RefusesTakingUntil}
-use Rattle.docs_core.specs.Updated as updated
+use Rattle.docs_core.specs.Updating as updated
 use Rattle.json_docs.specs.declared.fault.DocFault.{DocFault}
 use Rattle.docs_core.specs.Lines.{AreDocuments, AreThreeDocuments}
 use Rattle.command_core.specs.declared.documents.DocumentTask.{DocumentTask}

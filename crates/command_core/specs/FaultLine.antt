@@ -6,7 +6,7 @@ use Rattle.std.specs.Io.KnownBytes.{Appends}
 use Rattle.json_docs.specs.Sinks.{AppendsFront}
 use Rattle.front_core.specs.Fault.{document_of, number_of, row_of}
 use Rattle.front_core.specs.declared.fault.FrontFault.{FrontFault}
-use Rattle.command_core.specs.Streams.{IsUnwritten, Writer}
+use Rattle.command_core.specs.OutputStreams.{IsUnwritten, Writer}
 
 -- a word and a number after it, where there is one
 abbrev pub counted : List ℕ → Option ℕ → List ℕ

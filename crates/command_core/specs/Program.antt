@@ -9,10 +9,10 @@ use Rattle.clap.specs.declared.error.kind.ErrorKind.TheVariants.{DisplayHelp, Di
 use Rattle.clap.specs.declared.error.kind.ErrorKind.TheVariants.{OutOfMemory}
 use Rattle.clap.specs.declared.parser.matches.ArgMatches.{ArgMatches}
 use Rattle.json_docs.specs.Sinks.{AppendsFront}
-use Rattle.command_core.specs.Acts.{ActsBy}
-use Rattle.command_core.specs.Endings.{EndsForMemory}
-use Rattle.command_core.specs.Streams.{IsUnread, IsUnwritten, Streams, Writer}
-use Rattle.command_core.specs.Words.{Numerals, Schemes, lexicat_app}
+use Rattle.command_core.specs.TaskActs.{ActsBy}
+use Rattle.command_core.specs.OutputEndings.{EndsForMemory}
+use Rattle.command_core.specs.OutputStreams.{IsUnread, IsUnwritten, Streams, Writer}
+use Rattle.command_core.specs.ArgumentsWords.{Numerals, Schemes, lexicat_app}
 
 -- help and the version are answers, and no faults
 abbrev pub is_shown : ErrorKind → Bool

@@ -6,12 +6,13 @@ use Rattle.std.specs.Str.Parse.{IsNumeral, digits_value, without_leading_plus}
 use Rattle.clap.specs.Words.{Row, Text, first_of, one_of}
 use Rattle.front_core.specs.declared.exchange.View.{View as SiteView}
 use Rattle.front_core.specs.declared.exchange.View.TheVariants as view
-use Rattle.command_core.specs.AskWords.{FilterWords, LookupWords, OutdatedWords}
-use Rattle.command_core.specs.AskWords.{PickAllWords, PickWords}
-use Rattle.command_core.specs.AskWords.{filter_words, is_refusal, lookup_words, outdated_words}
-use Rattle.command_core.specs.AskWords.{pick_all_words, pick_words}
-use Rattle.command_core.specs.EditWords.{EditWords, delete_words, put_words}
-use Rattle.command_core.specs.FieldWords.{PreferenceWords, is_given, preference_words}
+use Rattle.command_core.specs.TaskQuestionWords.{FilterWords, LookupWords, OutdatedWords}
+use Rattle.command_core.specs.TaskQuestionWords.{PickAllWords, PickWords}
+use Rattle.command_core.specs.TaskQuestionWords.{filter_words, is_refusal, lookup_words}
+use Rattle.command_core.specs.TaskQuestionWords.{outdated_words}
+use Rattle.command_core.specs.TaskQuestionWords.{pick_all_words, pick_words}
+use Rattle.command_core.specs.TaskEditWords.{EditWords, delete_words, put_words}
+use Rattle.command_core.specs.TaskFieldWords.{PreferenceWords, is_given, preference_words}
 use Rattle.command_core.specs.declared.documents.DocumentTask.{DocumentTask}
 use Rattle.command_core.specs.declared.documents.DocumentTask.TheVariants as document
 use Rattle.command_core.specs.declared.task.Numbers.{Numbers}

@@ -2,11 +2,14 @@
 ghost use Rattle.std.specs.Prelude.{◌≡◌, false, codes, IfOk};
 ghost use Rattle.clap.specs.Words.{app_of, new_app};
 ghost use Rattle.clap.specs.declared.builder.command.Command.TheViews.{out-Command};
-ghost use Rattle.command_core.specs.Words.{IsArgument, IsCommand, Joins, default_rule, edit_app};
-ghost use Rattle.command_core.specs.Words.{field_rule, flag_rule, id_rule, lang_rule};
-ghost use Rattle.command_core.specs.Words.{not_after_rule, now_rule, number_rule, preferences_app};
-ghost use Rattle.command_core.specs.Words.{required_rule, scheme_rule, site_rule, source_rule};
-ghost use Rattle.command_core.specs.Words.{words_rule};
+ghost use Rattle.command_core.specs.ArgumentsWords.{IsArgument, IsCommand, Joins, default_rule};
+ghost use Rattle.command_core.specs.ArgumentsWords.{edit_app};
+ghost use Rattle.command_core.specs.ArgumentsWords.{field_rule, flag_rule, id_rule, lang_rule};
+ghost use Rattle.command_core.specs.ArgumentsWords.{not_after_rule, now_rule, number_rule};
+ghost use Rattle.command_core.specs.ArgumentsWords.{preferences_app};
+ghost use Rattle.command_core.specs.ArgumentsWords.{required_rule, scheme_rule, site_rule};
+ghost use Rattle.command_core.specs.ArgumentsWords.{source_rule};
+ghost use Rattle.command_core.specs.ArgumentsWords.{words_rule};
 
 use clap::{Arg, ArgAction, Command, value_parser};
 use std::alloc::{AllocError, Global};

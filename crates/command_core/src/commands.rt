@@ -1,11 +1,14 @@
 //! The commands, in the order in which the help shows them.
 ghost use Rattle.std.specs.Prelude.{◌≡◌, IfOk};
 ghost use Rattle.clap.specs.Words.{app_of};
-ghost use Rattle.command_core.specs.Words.{IsCommand, bundle_app, delete_app, exchange_app};
-ghost use Rattle.command_core.specs.Words.{explain_app, filter_app, import_app, labels_app};
-ghost use Rattle.command_core.specs.Words.{lookup_app, merge_app, missing_app, new_site_app};
-ghost use Rattle.command_core.specs.Words.{outdated_app, pick_app, put_app, questions_app};
-ghost use Rattle.command_core.specs.Words.{sites_app, sync_app, take_app, update_app};
+ghost use Rattle.command_core.specs.ArgumentsWords.{IsCommand, bundle_app, delete_app};
+ghost use Rattle.command_core.specs.ArgumentsWords.{exchange_app};
+ghost use Rattle.command_core.specs.ArgumentsWords.{explain_app, filter_app, import_app};
+ghost use Rattle.command_core.specs.ArgumentsWords.{labels_app};
+ghost use Rattle.command_core.specs.ArgumentsWords.{lookup_app, merge_app, missing_app};
+ghost use Rattle.command_core.specs.ArgumentsWords.{new_site_app};
+ghost use Rattle.command_core.specs.ArgumentsWords.{outdated_app, pick_app, put_app, questions_app};
+ghost use Rattle.command_core.specs.ArgumentsWords.{sites_app, sync_app, take_app, update_app};
 
 use crate::arguments::{self, described, reading, with_command};
 use clap::Command;

@@ -1,11 +1,11 @@
 //! The commands of several documents, with a number at most, `--now` or `--not-after`.
 ghost use Rattle.std.specs.Prelude.{◌≡◌, false, MatchResult};
-ghost use Rattle.json_docs.specs.Checks.{OrMemory};
+ghost use Rattle.json_docs.specs.FaultChecks.{OrMemory};
 ghost use Rattle.row_docs.specs.Reading.{no_memory};
-ghost use Rattle.command_core.specs.Acts.{Performs};
+ghost use Rattle.command_core.specs.TaskActs.{Performs};
 ghost use Rattle.command_core.specs.Documents.{AreChangesOf, IsDocument, RefusesChanges};
 ghost use Rattle.command_core.specs.Documents.{RefusesDocuments};
-ghost use Rattle.command_core.specs.Streams.{reads};
+ghost use Rattle.command_core.specs.OutputStreams.{reads};
 ghost use Rattle.command_core.specs.TaskWords.{Changes, Document};
 
 use crate::output::Answered;

@@ -1,9 +1,9 @@
 //! The commands `put` and `delete`.
 ghost use Rattle.std.specs.Prelude.{◌≡◌, false, MatchResult};
-ghost use Rattle.command_core.specs.Acts.{IsChangeOf, Performs, RefusesChangeOf};
-ghost use Rattle.command_core.specs.Streams.{reads};
+ghost use Rattle.command_core.specs.TaskActs.{IsChangeOf, Performs, RefusesChangeOf};
+ghost use Rattle.command_core.specs.OutputStreams.{reads};
 ghost use Rattle.command_core.specs.TaskWords.{Edit};
-ghost use Rattle.command_core.specs.Values.{edit_values};
+ghost use Rattle.command_core.specs.TaskValues.{edit_values};
 
 use crate::output::Answered;
 use docs_core::{Source, read_all};

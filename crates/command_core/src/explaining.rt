@@ -1,6 +1,6 @@
 //! The command `explain`.
 ghost use Rattle.std.specs.Prelude.{◌≡◌, option_map, IfOk, MatchResult};
-ghost use Rattle.command_core.specs.Acts.{IsExplained, RefusesNever};
+ghost use Rattle.command_core.specs.TaskActs.{IsExplained, RefusesNever};
 ghost use Rattle.front_core.specs.Refusal.{refusal_texts};
 ghost use Rattle.command_core.specs.Explaining.{explanation};
 ghost use Rattle.command_core.specs.Status.{answer_status};

@@ -5,11 +5,11 @@ ghost use Rattle.std_io.specs.IoError.{error_kind};
 ghost use Rattle.arrayvec.specs.ArrayString.{array_string_len};
 ghost use Rattle.front_core.specs.Fault.{number_of};
 ghost use Rattle.front_core.specs.declared.fault.FrontFault.TheVariants.{NoMemory};
-ghost use Rattle.command_core.specs.Endings.{LacksWords, ReportsUsage, usage_line};
+ghost use Rattle.command_core.specs.OutputEndings.{LacksWords, ReportsUsage, usage_line};
 ghost use Rattle.command_core.specs.FaultLine.{PrintsFault, PrintsRefusal, counted, document_meant};
 ghost use Rattle.command_core.specs.FaultLine.{fault_line};
 ghost use Rattle.command_core.specs.Status.{status_of};
-ghost use Rattle.command_core.specs.Streams.{writes};
+ghost use Rattle.command_core.specs.OutputStreams.{writes};
 
 use crate::status;
 use arrayvec::ArrayString;

@@ -1,10 +1,10 @@
 //! Laws over the definitions alone, each the contract of a function that does nothing.
 ghost use Rattle.std.specs.Prelude.{◌++◌, List, ℕ};
 ghost use Rattle.cata_core.specs.Site.{SiteState};
-ghost use Rattle.site_docs.specs.ReadsAs.{IsSiteText, ReadsAsSite};
-ghost use Rattle.row_docs.specs.Texts.{IsOneLine};
-ghost use Rattle.map_docs.specs.LangMapLabels.{AreLangMaps};
-ghost use Rattle.map_docs.specs.LangMaps.{Labelled};
+ghost use Rattle.site_docs.specs.Reading.{IsSiteText, ReadsAsSite};
+ghost use Rattle.row_docs.specs.WritingTexts.{IsOneLine};
+ghost use Rattle.map_docs.specs.MapsLabels.{AreLangMaps};
+ghost use Rattle.map_docs.specs.Maps.{Labelled};
 ghost use Rattle.docs_core.specs.Lines.{AreDocuments};
 
 /// A text that was written may come before any other document in an input: the input is cut right

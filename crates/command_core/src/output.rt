@@ -4,9 +4,9 @@ ghost use Rattle.std.specs.Io.KnownBytes.{Appends};
 ghost use Rattle.json_docs.specs.Faults.{of_no_document};
 ghost use Rattle.json_docs.specs.Sinks.{AppendsFront};
 ghost use Rattle.json_docs.specs.declared.fault.DocCause.TheVariants.{WriteFault};
-ghost use Rattle.command_core.specs.Endings.{EndsRefused, Writes};
+ghost use Rattle.command_core.specs.OutputEndings.{EndsRefused, Writes};
 ghost use Rattle.command_core.specs.Status.{answer_status};
-ghost use Rattle.command_core.specs.Streams.{writes};
+ghost use Rattle.command_core.specs.OutputStreams.{writes};
 
 use crate::fault_line::refuse;
 use crate::status;

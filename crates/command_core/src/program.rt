@@ -2,10 +2,10 @@
 ghost use Rattle.std.specs.Prelude.{◌≡◌, false, codes, map, string_bytes, IfOk, IfSome};
 ghost use Rattle.clap.specs.Words.{app_of, kind_of, fault_of, subcommand_of, subcommand_rows_of};
 ghost use Rattle.clap.specs.Words.{FailsBy};
-ghost use Rattle.command_core.specs.Help.{words_meant};
+ghost use Rattle.command_core.specs.ProgramHelp.{words_meant};
 ghost use Rattle.command_core.specs.Program.{MatchesBy, RunsBy, ReportsBy};
-ghost use Rattle.command_core.specs.Streams.{reads, streams, writes};
-ghost use Rattle.command_core.specs.Words.{bare_app, lexicat_app};
+ghost use Rattle.command_core.specs.OutputStreams.{reads, streams, writes};
+ghost use Rattle.command_core.specs.ArgumentsWords.{bare_app, lexicat_app};
 
 use crate::commands::{with_exchange, with_labels, with_questions, with_sites};
 use crate::fault_line::refuse_for_memory;

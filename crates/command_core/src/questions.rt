@@ -1,7 +1,7 @@
 //! The commands that question the site of the input.
 ghost use Rattle.std.specs.Prelude.{◌≡◌, Err, Ok, false};
-ghost use Rattle.command_core.specs.Acts.{Asks};
-ghost use Rattle.command_core.specs.Streams.{reads};
+ghost use Rattle.command_core.specs.TaskActs.{Asks};
+ghost use Rattle.command_core.specs.OutputStreams.{reads};
 
 use crate::output::Answered;
 use docs_core::{Source, read_all};

@@ -1,9 +1,10 @@
 //! The commands `new` and `sync`.
 ghost use Rattle.std.specs.Prelude.{◌≡◌, ◌++◌, false, MatchResult};
-ghost use Rattle.command_core.specs.Acts.{RefusesNew, IsNew, IsSync, RefusesSync, Treats};
-ghost use Rattle.command_core.specs.Reading.{NoWords, RefusesNothing, AnswersInput, RefusesInput};
+ghost use Rattle.command_core.specs.TaskActs.{RefusesNew, IsNew, IsSync, RefusesSync, Treats};
+ghost use Rattle.command_core.specs.TaskReading.{NoWords, RefusesNothing, AnswersInput};
+ghost use Rattle.command_core.specs.TaskReading.{RefusesInput};
 ghost use Rattle.command_core.specs.Status.{answer_status};
-ghost use Rattle.command_core.specs.Streams.{reads, streams, writes};
+ghost use Rattle.command_core.specs.OutputStreams.{reads, streams, writes};
 ghost use Rattle.command_core.specs.TaskWords.{Sync};
 
 use crate::fault_line::refuse;

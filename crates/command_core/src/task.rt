@@ -3,13 +3,13 @@ ghost use Rattle.std.specs.Prelude.{◌≡◌, false, map, option_map};
 ghost use Rattle.std.specs.Option.{option_copied};
 ghost use Rattle.clap.specs.Words.{all_of, first_of, found_of, rows_of, subcommand_rows_of};
 ghost use Rattle.front_core.specs.Preferences.{field_text};
-ghost use Rattle.command_core.specs.Acts.{ActsBy, Treats};
-ghost use Rattle.command_core.specs.EditWords.{edit_words};
-ghost use Rattle.command_core.specs.FieldWords as spec;
-ghost use Rattle.command_core.specs.Streams.{reads, streams, writes};
+ghost use Rattle.command_core.specs.TaskActs.{ActsBy, Treats};
+ghost use Rattle.command_core.specs.TaskEditWords.{edit_words};
+ghost use Rattle.command_core.specs.TaskFieldWords as spec;
+ghost use Rattle.command_core.specs.OutputStreams.{reads, streams, writes};
 ghost use Rattle.command_core.specs.TaskWords.{Edit, GivesNumber, GivesNumbers, GivesTask};
 ghost use Rattle.command_core.specs.TaskWords.{Replay, pick_task};
-ghost use Rattle.command_core.specs.Values.{preference_values, task_values};
+ghost use Rattle.command_core.specs.TaskValues.{preference_values, task_values};
 
 use crate::documents::DocumentTask;
 use crate::edits::EditValues;

@@ -16,41 +16,41 @@ use Rattle.cata_core.specs.Summary.{SummaryState}
 use Rattle.catalogue.specs.declared.cata_fault.CataFault.{CataFault}
 use Rattle.catalogue.specs.declared.cata_fault.CataFault.TheVariants as cata
 use Rattle.cata_core.specs.declared.delta.Delta.{Delta as DeltaState}
-use Rattle.catalogue.specs.Latest.{latest_of}
+use Rattle.catalogue.specs.CatalogueLatest.{latest_of}
 use Rattle.catalogue.proofs.ClashLemmas.{clash_not_agree}
 use Rattle.json_docs.specs.Faults.{of_no_document, of_site}
 use Rattle.json_docs.specs.declared.fault.DocFault.{DocFault}
 use Rattle.row_docs.specs.Reading.{IsOfDocument}
 use Rattle.row_docs.specs.declared.kind.Kind.TheVariants as kind
-use Rattle.site_docs.specs.ReadsAs.{ReadsAsDelta, ReadsAsSite, ReadsAsSummary, RefusesDelta}
-use Rattle.site_docs.specs.ReadsAs.{RefusesSite, RefusesSummary}
+use Rattle.site_docs.specs.Reading.{ReadsAsDelta, ReadsAsSite, ReadsAsSummary, RefusesDelta}
+use Rattle.site_docs.specs.Reading.{RefusesSite, RefusesSummary}
 use Rattle.site_docs.specs.SiteDocuments.{IsDeltaDocument, IsSummaryDocument, delta_checks}
 use Rattle.site_docs.specs.SiteDocuments.{summary_checks}
-use Rattle.site_docs.proofs.OneDocument.{one_delta, one_site}
-use Rattle.map_docs.specs.LangMapChecks.{langmaps_checks}
-use Rattle.map_docs.specs.LangMapLabels.{AreLangMaps, ReadsAsLangMaps, RefusesLangMaps}
-use Rattle.map_docs.specs.LangMaps.{Labelled}
-use Rattle.query_docs.specs.Changed.{IsChanged, RefusesChanged}
+use Rattle.site_docs.proofs.ReadingOneDocument.{one_delta, one_site}
+use Rattle.map_docs.specs.LabelsChecks.{langmaps_checks}
+use Rattle.map_docs.specs.MapsLabels.{AreLangMaps, ReadsAsLangMaps, RefusesLangMaps}
+use Rattle.map_docs.specs.Maps.{Labelled}
+use Rattle.query_docs.specs.Changes.{IsChanged, RefusesChanged}
 use Rattle.docs_core.specs.Calls.{AreSynced, IsDeltaFor, IsEdited, IsOfSite, IsTaken}
 use Rattle.docs_core.specs.Calls.{RefusesDeltaFor, RefusesEditing, RefusesSync, RefusesTaking}
-use Rattle.docs_core.specs.Exchange.{IsImported, RefusesImport}
-use Rattle.docs_core.specs.Imported.{puts_of}
-use Rattle.docs_core.specs.Made.{Change, Makes, SpendsClock, with_change}
+use Rattle.docs_core.specs.Importing.{IsImported, RefusesImport}
+use Rattle.docs_core.specs.ImportingLabels.{puts_of}
+use Rattle.docs_core.specs.UpdatingChanges.{Change, Makes, SpendsClock, with_change}
 use Rattle.docs_core.specs.TimeLimits.{AreSyncedUntil, IsAheadOfBoth, IsTakenUntil}
 use Rattle.site_docs.specs.RowsInTime.{AreInTime}
 use Rattle.docs_core.specs.TimeLimits.{ReadsInTime, RefusesDeltaUntil}
 use Rattle.site_docs.specs.RowsInTime.{IsTimeAhead}
 use Rattle.docs_core.specs.TimeLimits.{RefusesSyncUntil, RefusesTakingUntil}
-use Rattle.docs_core.specs.Updated.{AreChanges, IsUpdated, RefusesUpdate, SpendsUpdate}
+use Rattle.docs_core.specs.Updating.{AreChanges, IsUpdated, RefusesUpdate, SpendsUpdate}
 use Rattle.docs_core.proofs.CallRefusals.{ahead_not_in_time, cells_not_refused}
 use Rattle.docs_core.proofs.CallRefusals.{one_ahead, one_cell_cause, one_of_cells}
 use Rattle.docs_core.proofs.CallRefusals.{one_of_document, one_of_site_call, one_of_site_document}
 use Rattle.docs_core.proofs.CallRefusals.{site_not_refused, site_rises}
-use Rattle.docs_core.proofs.OneRefusal.{cells_named, langmaps, one_cause, read_not_refused}
-use Rattle.docs_core.proofs.OneRefusal.{stamps_named}
+use Rattle.docs_core.proofs.SitesOneRefusal.{cells_named, langmaps, one_cause, read_not_refused}
+use Rattle.docs_core.proofs.SitesOneRefusal.{stamps_named}
 use Rattle.docs_core.proofs.TimeLimitsLemmas.{synced_same, taken_same}
-use Rattle.docs_core.proofs.UpdateLaws.{one_list}
-use Rattle.map_docs.proofs.LangMapLawsLemmas.{same_labels}
+use Rattle.docs_core.proofs.UpdatingLaws.{one_list}
+use Rattle.map_docs.proofs.MapsLawsLemmas.{same_labels}
 
 -- ---- other documents
 

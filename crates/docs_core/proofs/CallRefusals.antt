@@ -22,12 +22,12 @@ use Rattle.row_docs.specs.Reading.{IsOfDocument}
 use Rattle.row_docs.specs.Rising.{cell_checks}
 use Rattle.row_docs.specs.declared.kind.Kind.TheVariants as kind
 use Rattle.row_docs.proofs.RisingKeys.{cells_rise}
-use Rattle.site_docs.specs.ReadsAs.{ReadsAsSite, RefusesSite}
+use Rattle.site_docs.specs.Reading.{ReadsAsSite, RefusesSite}
 use Rattle.site_docs.specs.SiteDocuments.{IsSiteDocument, site_checks}
 use Rattle.docs_core.specs.Calls.{IsOfSite}
 use Rattle.site_docs.specs.RowsInTime.{AreInTime, IsFirstAhead, IsInTime, IsTimeAhead}
-use Rattle.docs_core.proofs.OldSitesLemmas.{document_rows}
-use Rattle.docs_core.proofs.OneRefusal.{cells_named, one_cause, read_not_refused}
+use Rattle.docs_core.proofs.MigrationSitesLemmas.{document_rows}
+use Rattle.docs_core.proofs.SitesOneRefusal.{cells_named, one_cause, read_not_refused}
 
 -- ---- of a document
 

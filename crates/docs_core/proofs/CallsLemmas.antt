@@ -6,12 +6,12 @@ use Rattle.cata_core.specs.Site.{RefusesDelta, SiteState}
 use Rattle.cata_core.specs.declared.delta.Delta.{Delta}
 use Rattle.catalogue.specs.declared.cata_fault.CataFault.{CataFault}
 use Rattle.catalogue.specs.declared.cata_fault.CataFault.TheVariants as cata
-use Rattle.json_docs.specs.Checks.{OrMemory}
+use Rattle.json_docs.specs.FaultChecks.{OrMemory}
 use Rattle.json_docs.specs.Faults.{of_no_document, of_site}
 use Rattle.json_docs.specs.declared.fault.DocFault.{DocFault}
 use Rattle.site_docs.specs.Documents.{site_text}
 use Rattle.row_docs.specs.Reading.{IsOfDocument, no_memory}
-use Rattle.site_docs.specs.ReadsAs.{IsSiteText, ReadsAsSite, RefusesSite}
+use Rattle.site_docs.specs.Reading.{IsSiteText, ReadsAsSite, RefusesSite}
 use Rattle.docs_core.specs.Calls.{IsOfSite}
 
 -- the refusal of a site's call, as that of a call on documents

@@ -11,7 +11,7 @@ use Rattle.cell_core.specs.declared.cell.Cell.{Cell}
 use Rattle.cell_core.specs.Entry.{EntryKey, key_cmp, key_cmp_exact}
 use Rattle.catalogue.specs.Entries.{Entries, Entry, IsAboveAll}
 use Rattle.cell_core.specs.Entry.{key_cmp_total}
-use Rattle.catalogue.proofs.FlatLemmas.{all_first, all_rest}
+use Rattle.catalogue.proofs.CatalogueFlatLemmas.{all_first, all_rest}
 use Rattle.docs_core.specs.EditedRows.{after_key, before_key}
 use Rattle.cell_core.proofs.Basics.{is_greater as greater, second_part}
 use Rattle.docs_core.proofs.JoinedRowsLemmas.{AreAfter, after_first}

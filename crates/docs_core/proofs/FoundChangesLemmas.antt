@@ -11,18 +11,18 @@ use Rattle.cell_core.specs.declared.cell.Cell.{Cell}
 use Rattle.cell_core.specs.Entry.{EntryKey, key_cmp}
 use Rattle.catalogue.specs.Entries.{Entries, Entry, IsAboveAll}
 use Rattle.cell_core.specs.Entry.{key_cmp_exact, key_cmp_total}
-use Rattle.map_docs.specs.LangMaps.{Labelled}
-use Rattle.query_docs.specs.Exported.{label_at}
+use Rattle.map_docs.specs.Maps.{Labelled}
+use Rattle.query_docs.specs.Exporting.{label_at}
 use Rattle.docs_core.specs.FoundChanges.{HasLabel, IsFound, IsNoted}
-use Rattle.docs_core.specs.Made.{Change}
+use Rattle.docs_core.specs.UpdatingChanges.{Change}
 use Rattle.docs_core.specs.Revised.{IsFirstRevised, key_of, new_of, old_of}
-use Rattle.docs_core.specs.Updated.{AreChanges, Texts}
+use Rattle.docs_core.specs.Updating.{AreChanges, Texts}
 use Rattle.docs_core.specs.declared.call.revised.Revised.{Revised}
-use Rattle.catalogue.proofs.BestLemmas.{own_key as itself, same_key as one_key}
+use Rattle.catalogue.proofs.CatalogueBestLemmas.{own_key as itself, same_key as one_key}
 use Rattle.docs_core.proofs.JoinedRowsLemmas.{after_greater, find_above, find_part, find_seam}
 use Rattle.docs_core.proofs.JoinedRowsLemmas.{part_after}
-use Rattle.docs_core.proofs.UpdatedLemmas.{Some≢None, above_found, changed_differ, changed_first}
-use Rattle.docs_core.proofs.UpdatedLemmas.{skipped}
+use Rattle.docs_core.proofs.UpdatingLemmas.{Some≢None, above_found, changed_differ, changed_first}
+use Rattle.docs_core.proofs.UpdatingLemmas.{skipped}
 
 -- The keys that are left are greater than those of the cells that were seen. With these cells the
 -- changes that are noted and those at the keys that are left are all.

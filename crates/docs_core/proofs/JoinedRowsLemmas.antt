@@ -19,17 +19,17 @@ use Rattle.cell_core.specs.Entry.{EntryKey, key_cmp}
 use Rattle.catalogue.specs.Entries.{Agree, Entries, Entry, IsAboveAll, joined}
 use Rattle.cell_core.specs.Entry.{key_cmp_exact, key_cmp_total}
 use Rattle.catalogue.proofs.Basics.{some_same}
-use Rattle.catalogue.proofs.BehindLemmas.{IsMap-behind, front_below, put_behind}
-use Rattle.catalogue.proofs.BestLemmas.{own_key}
+use Rattle.catalogue.proofs.CatalogueAboveLemmas.{IsMap-behind, front_below, put_behind}
+use Rattle.catalogue.proofs.CatalogueBestLemmas.{own_key}
 use Rattle.catalogue.proofs.ClashLemmas.{found_at}
-use Rattle.catalogue.proofs.FlatLemmas.{all_first, all_rest}
-use Rattle.catalogue.proofs.StampOrderLemmas.{not_less_self}
+use Rattle.catalogue.proofs.CatalogueFlatLemmas.{all_first, all_rest}
+use Rattle.catalogue.proofs.EditStampOrderLemmas.{not_less_self}
 use Rattle.docs_core.specs.JoinedRows.{AreJoined, IsFirstGreater, IsJoinedTo, IsJoining}
 use Rattle.docs_core.specs.JoinedRows.{IsJoiningAs, IsJoiningBefore}
 use Rattle.site_docs.specs.RowsDraft.{HoldsRows}
 use Rattle.site_docs.specs.declared.rows_draft.RowsDraft.{RowsDraft}
-use Rattle.catalogue.proofs.ApplyLemmas.{with_none as agree_none}
-use Rattle.cata_core.proofs.SpreadingLemmas.{get_next as last_there}
+use Rattle.catalogue.proofs.CatalogueApplyLemmas.{with_none as agree_none}
+use Rattle.cata_core.proofs.RunsSpreadingLemmas.{get_next as last_there}
 use Rattle.cell_core.proofs.Basics.{both_parts, first_part, less_than, second_part}
 use Rattle.cell_core.proofs.Basics.{tied_order as tied}
 

@@ -9,7 +9,7 @@ use Rattle.cell_core.specs.Keyed.{IsMap}
 use Rattle.cata_core.specs.Delta.{Stamps, delta_of, is_missing}
 use Rattle.cell_core.specs.Entry.{EntryKey, key_cmp}
 use Rattle.catalogue.specs.Entries.{Entries, Entry, IsAboveAll}
-use Rattle.catalogue.proofs.FlatLemmas.{all_first, all_rest}
+use Rattle.catalogue.proofs.CatalogueFlatLemmas.{all_first, all_rest}
 use Rattle.cell_core.proofs.Basics.{second_part}
 
 -- ---- what is left of a list

@@ -7,11 +7,12 @@ use Rattle.std.specs.FinMap.Entries.{find}
 use Rattle.cell_core.specs.declared.cell.Cell.{Cell}
 use Rattle.cell_core.specs.Entry.{EntryKey, key_cmp}
 use Rattle.catalogue.specs.Entries.{Entries}
-use Rattle.catalogue.specs.Parts.{part_of}
-use Rattle.catalogue.proofs.MembersLemmas.{Contains-from_in, filter_in, in_filter, in_from_Contains}
-use Rattle.catalogue.proofs.PartsLemmas.{find-part}
-use Rattle.map_docs.specs.LangMaps.{Labelled}
-use Rattle.query_docs.specs.Exported.{live_labels}
+use Rattle.catalogue.specs.CatalogueParts.{part_of}
+use Rattle.catalogue.proofs.CatalogueMembersLemmas.{Contains-from_in, filter_in, in_filter}
+use Rattle.catalogue.proofs.CatalogueMembersLemmas.{in_from_Contains}
+use Rattle.catalogue.proofs.CataloguePartsLemmas.{find-part}
+use Rattle.map_docs.specs.Maps.{Labelled}
+use Rattle.query_docs.specs.Exporting.{live_labels}
 use Rattle.query_docs.specs.Outdated.{IsOutdatedMessage, is_before, is_outdated, labelled_at}
 use Rattle.query_docs.specs.Outdated.{live_time, outdated_labels}
 use Rattle.docs_core.proofs.PartLaws.{chosen_of_part, live_of_part}

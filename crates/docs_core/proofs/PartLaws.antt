@@ -9,21 +9,21 @@ use Rattle.std.specs.Ordering.{eq_by_cmp}
 use Rattle.cell_core.specs.KeyedLaws.{same_maps}
 use Rattle.cell_core.specs.Entry.{EntryKey, key_cmp, key_cmp_exact, key_cmp_total}
 use Rattle.catalogue.specs.Entries.{Entries}
-use Rattle.catalogue.specs.Parts.{part_of}
+use Rattle.catalogue.specs.CatalogueParts.{part_of}
 use Rattle.catalogue.proofs.Basics.{some_same}
-use Rattle.catalogue.proofs.BestLemmas.{own_key, same_key}
-use Rattle.catalogue.proofs.FilteredLemmas.{filter-IsMap}
-use Rattle.catalogue.proofs.MembersLemmas.{Contains-from_in, In, filter_in, in_filter}
-use Rattle.catalogue.proofs.MembersLemmas.{in_from_Contains}
-use Rattle.catalogue.proofs.PartsLemmas.{find-part, part_looks_up_by}
+use Rattle.catalogue.proofs.CatalogueBestLemmas.{own_key, same_key}
+use Rattle.catalogue.proofs.EntriesFilteredLemmas.{filter-IsMap}
+use Rattle.catalogue.proofs.CatalogueMembersLemmas.{Contains-from_in, In, filter_in, in_filter}
+use Rattle.catalogue.proofs.CatalogueMembersLemmas.{in_from_Contains}
+use Rattle.catalogue.proofs.CataloguePartsLemmas.{find-part, part_looks_up_by}
 use Rattle.catalogue.specs.declared.reply.Reply.TheVariants.{Default, Matched}
 use Rattle.list_core.specs.Item.{Item}
 use Rattle.nego_core.specs.declared.widening.Widening.{Widening}
-use Rattle.map_docs.specs.LangMaps.{Labelled}
-use Rattle.query_docs.specs.Bundled.{IsAnswer, IsBundleBy}
-use Rattle.query_docs.specs.Exported.{label_at, live_labels}
+use Rattle.map_docs.specs.Maps.{Labelled}
+use Rattle.query_docs.specs.Bundling.{IsAnswer, IsBundleBy}
+use Rattle.query_docs.specs.Exporting.{label_at, live_labels}
 use Rattle.query_docs.specs.Missing.{missing_labels}
-use Rattle.query_docs.proofs.BundledLemmas.{answer_live, label_of}
+use Rattle.query_docs.proofs.BundlingLemmas.{answer_live, label_of}
 
 -- ---- exports
 

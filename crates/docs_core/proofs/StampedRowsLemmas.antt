@@ -18,14 +18,14 @@ use Rattle.cell_core.specs.declared.stamp.Stamp.{Stamp}
 use Rattle.cell_core.specs.Entry.{EntryKey, key_cmp}
 use Rattle.catalogue.specs.Entries.{Agree, Entries, Entry, IsAboveAll, joined}
 use Rattle.cell_core.specs.Entry.{key_cmp_exact, key_cmp_total}
-use Rattle.catalogue.specs.Latest.{latest_of}
-use Rattle.catalogue.proofs.BehindLemmas.{front_below}
-use Rattle.catalogue.proofs.FilteredLemmas.{find-below}
-use Rattle.cata_core.proofs.JoinTurnsLemmas.{agrees_back, joined_back}
-use Rattle.catalogue.proofs.LatestLemmas.{held_less, latest_put}
-use Rattle.map_docs.specs.LangMaps.{Labelled}
-use Rattle.docs_core.specs.Imported.{puts_of}
-use Rattle.docs_core.specs.Made.{Change, Makes}
+use Rattle.catalogue.specs.CatalogueLatest.{latest_of}
+use Rattle.catalogue.proofs.CatalogueAboveLemmas.{front_below}
+use Rattle.catalogue.proofs.EntriesFilteredLemmas.{find-below}
+use Rattle.cata_core.proofs.SyncingTurnsLemmas.{agrees_back, joined_back}
+use Rattle.catalogue.proofs.CatalogueLatestLemmas.{held_less, latest_put}
+use Rattle.map_docs.specs.Maps.{Labelled}
+use Rattle.docs_core.specs.ImportingLabels.{puts_of}
+use Rattle.docs_core.specs.UpdatingChanges.{Change, Makes}
 use Rattle.docs_core.specs.StampedRows.{AreStamped, HoldsStamped}
 use Rattle.docs_core.specs.SyncedRows.{IsSyncedTo}
 use Rattle.docs_core.specs.declared.call.stamped_rows.StampedRows.{StampedRows}

@@ -17,18 +17,18 @@ use Rattle.cell_core.specs.Entry.{key_cmp, key_cmp_total}
 use Rattle.cata_core.specs.Site.{SiteState}
 use Rattle.cata_core.specs.declared.delta.Delta.{Delta}
 use Rattle.catalogue.proofs.Basics.{append_nil, some_same}
-use Rattle.catalogue.proofs.BestLemmas.{same_key}
-use Rattle.catalogue.proofs.MembersLemmas.{Contains-from_in, In}
-use Rattle.json_docs.specs.Checks.{OrMemory}
+use Rattle.catalogue.proofs.CatalogueBestLemmas.{same_key}
+use Rattle.catalogue.proofs.CatalogueMembersLemmas.{Contains-from_in, In}
+use Rattle.json_docs.specs.FaultChecks.{OrMemory}
 use Rattle.json_docs.specs.declared.fault.DocFault.{DocFault}
 use Rattle.row_docs.specs.Reading.{no_memory}
-use Rattle.site_docs.specs.ReadsAs.{ReadsAsDelta, ReadsAsSite}
+use Rattle.site_docs.specs.Reading.{ReadsAsDelta, ReadsAsSite}
 use Rattle.docs_core.specs.Calls.{AreSynced, IsTaken, RefusesSync, RefusesTaking}
 use Rattle.docs_core.specs.TimeLimits.{AreSyncedUntil}
 use Rattle.site_docs.specs.RowsInTime.{AreInTime, IsFirstAhead, IsInTime}
 use Rattle.docs_core.specs.TimeLimits.{IsTakenUntil, RefusesSyncUntil, RefusesTakingUntil}
-use Rattle.map_docs.proofs.LangMapLabelsLemmas.{else_by}
-use Rattle.site_docs.proofs.OneDocument.{one_delta, one_site}
+use Rattle.map_docs.proofs.MapsLabelsLemmas.{else_by}
+use Rattle.site_docs.proofs.ReadingOneDocument.{one_delta, one_site}
 
 -- ---- the first row that is ahead
 

@@ -7,7 +7,7 @@ use Rattle.catalogue.specs.CataFault.{IsRefusal}
 use Rattle.cata_core.specs.Delta.{delta_of, summary_of}
 use Rattle.cell_core.specs.Entry.{EntryKey, key_cmp}
 use Rattle.catalogue.specs.Entries.{Agree, joined}
-use Rattle.catalogue.specs.Latest.{latest_of}
+use Rattle.catalogue.specs.CatalogueLatest.{latest_of}
 use Rattle.cata_core.specs.Site.{RefusesDelta as NotTaken, RefusesEdit, SiteState}
 use Rattle.cata_core.specs.Summary.{SummaryState}
 use Rattle.catalogue.specs.declared.cata_fault.CataFault.{CataFault}
@@ -16,9 +16,9 @@ use Rattle.cata_core.specs.declared.delta.Delta.{Delta}
 use Rattle.json_docs.specs.Faults.{of_no_document, of_site}
 use Rattle.json_docs.specs.declared.fault.DocFault.{DocFault}
 use Rattle.row_docs.specs.Reading.{IsOfDocument}
-use Rattle.site_docs.specs.ReadsAs.{IsDeltaText, IsSiteText, IsSummaryText}
-use Rattle.site_docs.specs.ReadsAs.{ReadsAsDelta, ReadsAsSite, ReadsAsSummary, RefusesDelta}
-use Rattle.site_docs.specs.ReadsAs.{RefusesSite, RefusesSummary}
+use Rattle.site_docs.specs.Reading.{IsDeltaText, IsSiteText, IsSummaryText}
+use Rattle.site_docs.specs.Reading.{ReadsAsDelta, ReadsAsSite, ReadsAsSummary, RefusesDelta}
+use Rattle.site_docs.specs.Reading.{RefusesSite, RefusesSummary}
 
 -- it is the refusal of a site's call, out of memory apart
 abbrev pub IsOfSite : (CataFault → Type 0) → DocFault → Type 0

@@ -4,11 +4,11 @@ use Rattle.std.specs.FinMap.Entries.{find}
 use Rattle.cell_core.specs.Keyed.{IsMap}
 use Rattle.cell_core.specs.Entry.{EntryKey, key_cmp}
 use Rattle.catalogue.specs.Entries.{Entries, IsAboveAll}
-use Rattle.catalogue.specs.Latest.{latest_of}
-use Rattle.map_docs.specs.LangMaps.{Labelled, labels_of}
-use Rattle.docs_core.specs.Made.{Change}
+use Rattle.catalogue.specs.CatalogueLatest.{latest_of}
+use Rattle.map_docs.specs.Maps.{Labelled, labels_of}
+use Rattle.docs_core.specs.UpdatingChanges.{Change}
 use Rattle.docs_core.specs.Revised.{key_of, new_of, old_of}
-use Rattle.docs_core.specs.Updated.{AreChanges, IsChangeAt, Texts}
+use Rattle.docs_core.specs.Updating.{AreChanges, IsChangeAt, Texts}
 use Rattle.docs_core.specs.declared.call.found_changes.FoundChanges.{FoundChanges}
 use Rattle.docs_core.specs.declared.call.found_changes.KeyChange.{KeyChange}
 use Rattle.docs_core.specs.declared.call.revised.Revised.{Revised}

@@ -8,11 +8,11 @@ use Rattle.cell_core.specs.Stamp.{IsNext, NoNext}
 use Rattle.cell_core.specs.declared.stamp.Stamp.{Stamp}
 use Rattle.cell_core.specs.Entry.{EntryKey, key_cmp}
 use Rattle.catalogue.specs.Entries.{Entries}
-use Rattle.catalogue.specs.Latest.{latest_of}
-use Rattle.map_docs.specs.LangMaps.{Labelled}
-use Rattle.query_docs.specs.Exported.{label_at}
-use Rattle.docs_core.specs.Made.{with_change}
-use Rattle.docs_core.specs.Updated.{IsChangeAt, Texts}
+use Rattle.catalogue.specs.CatalogueLatest.{latest_of}
+use Rattle.map_docs.specs.Maps.{Labelled}
+use Rattle.query_docs.specs.Exporting.{label_at}
+use Rattle.docs_core.specs.UpdatingChanges.{with_change}
+use Rattle.docs_core.specs.Updating.{IsChangeAt, Texts}
 use Rattle.docs_core.specs.declared.call.revised.Revised.{Revised}
 
 -- the key: a message and a language

@@ -4,7 +4,7 @@ use Rattle.cell_core.specs.Stamp.{IsNext}
 use Rattle.cell_core.specs.declared.stamp.Stamp.{Stamp}
 use Rattle.cell_core.specs.Entry.{EntryKey}
 use Rattle.catalogue.specs.Entries.{Entries, IsAboveAll}
-use Rattle.docs_core.specs.Made.{Change}
+use Rattle.docs_core.specs.UpdatingChanges.{Change}
 use Rattle.docs_core.specs.SyncedRows.{IsSyncedTo}
 use Rattle.docs_core.specs.declared.call.stamped_rows.StampedRows.{StampedRows}
 

@@ -6,8 +6,8 @@ use Rattle.cata_core.specs.Site.{RefusesDelta as NotTaken, SiteState}
 use Rattle.cata_core.specs.declared.delta.Delta.{Delta}
 use Rattle.json_docs.specs.declared.fault.DocFault.{DocFault}
 use Rattle.row_docs.specs.Reading.{IsOfDocument}
-use Rattle.site_docs.specs.ReadsAs.{IsSiteText, ReadsAsDelta, ReadsAsSite}
-use Rattle.site_docs.specs.ReadsAs.{RefusesDelta, RefusesSite}
+use Rattle.site_docs.specs.Reading.{IsSiteText, ReadsAsDelta, ReadsAsSite}
+use Rattle.site_docs.specs.Reading.{RefusesDelta, RefusesSite}
 use Rattle.docs_core.specs.Calls.{IsOfSite}
 use Rattle.site_docs.specs.RowsInTime.{AreInTime, IsTimeAhead}
 

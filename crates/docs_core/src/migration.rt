@@ -1,25 +1,25 @@
 //! Laws: a document of version 1 is read as what its plain data become.
 ghost use Rattle.std.specs.Prelude.{◌≡◌, List, ℕ};
 ghost use Rattle.serde_json.specs.Data.{Data};
-ghost use Rattle.cata_core.specs.Migration.{AgreeOld, OldDelta, OldSite, OldSummary};
-ghost use Rattle.cata_core.specs.Migration.{joined_old, migrated_delta};
-ghost use Rattle.cata_core.specs.Migration.{migrated_site, migrated_summary};
+ghost use Rattle.cata_core.specs.SiteMigration.{AgreeOld, OldDelta, OldSite, OldSummary};
+ghost use Rattle.cata_core.specs.SiteMigration.{joined_old, migrated_delta};
+ghost use Rattle.cata_core.specs.SiteMigration.{migrated_site, migrated_summary};
 ghost use Rattle.cata_core.specs.Site.{SiteState};
 ghost use Rattle.cata_core.specs.Summary.{SummaryState};
 ghost use Rattle.cata_core.specs.declared.delta.Delta.{Delta};
-ghost use Rattle.json_docs.specs.Checks.{AreJson};
+ghost use Rattle.json_docs.specs.FaultChecks.{AreJson};
 ghost use Rattle.row_docs.specs.Headers.{version_of};
-ghost use Rattle.site_docs.specs.ReadsAs.{ReadsAsDelta, ReadsAsSite, ReadsAsSummary};
+ghost use Rattle.site_docs.specs.Reading.{ReadsAsDelta, ReadsAsSite, ReadsAsSummary};
 ghost use Rattle.row_docs.specs.declared.version.Version.TheVariants.{One};
-ghost use Rattle.script_docs.specs.ScriptReads.{ReadsAsScript};
+ghost use Rattle.script_docs.specs.Reading.{ReadsAsScript};
 ghost use Rattle.script_docs.specs.Scripts.{ScriptState};
 ghost use Rattle.docs_core.specs.Calls.{AreSynced};
-ghost use Rattle.site_docs.specs.OldDocuments.{IsOldDeltaDocument};
-ghost use Rattle.script_docs.specs.OldScripts.{IsOldScriptDocument};
-ghost use Rattle.site_docs.specs.OldDocuments.{IsOldSiteDocument, IsOldSummaryDocument};
-ghost use Rattle.script_docs.specs.OldScripts.{OldScript};
-ghost use Rattle.script_docs.specs.OldScripts.{migrated_script};
-ghost use Rattle.docs_core.specs.OldSites.{IsOldDelta, IsOldScript, IsOldSite, IsOldSummary};
+ghost use Rattle.site_docs.specs.DocumentsMigration.{IsOldDeltaDocument};
+ghost use Rattle.script_docs.specs.ScriptsMigration.{IsOldScriptDocument};
+ghost use Rattle.site_docs.specs.DocumentsMigration.{IsOldSiteDocument, IsOldSummaryDocument};
+ghost use Rattle.script_docs.specs.ScriptsMigration.{OldScript};
+ghost use Rattle.script_docs.specs.ScriptsMigration.{migrated_script};
+ghost use Rattle.docs_core.specs.MigrationSites.{IsOldDelta, IsOldScript, IsOldSite, IsOldSummary};
 
 pub use row_docs::laws::a_row_reads_as_migrated;
 pub use script_docs::laws::a_script_reads_as_migrated;

@@ -17,7 +17,7 @@ use Rattle.std_alloc.specs.Box.Ownership.{box_owns}
 use Rattle.std_heap.specs.declared.Global.{Global}
 use Rattle.std_heap.specs.contracts.GlobalAllocator.TheImpl.{ghosts}
 use Rattle.std_heap.proofs.GlobalToken.{dealloc_token-Testable}
-use Rattle.front_c.specs.Held.{Share, share_row, site_held}
+use Rattle.front_c.specs.SiteHandleHeld.{Share, share_row, site_held}
 
 -- whether the pointer leads to a block
 abbrev pub is_block : Ptr → Bool

@@ -1,4 +1,4 @@
-pub mod AskedLemmas
 pub mod HandleSteps
-pub mod Options
-pub mod Values
+pub mod RawBoxValues
+pub mod ReportingAskedLemmas
+pub mod SiteHandleOptions

@@ -2,7 +2,7 @@
 use Rattle.std.specs.Prelude.{◌≡◌, ◌≢◌, ◌⊎◌, ℕ, ℤ, None, Option, Some, MatchOption, MatchResult}
 use Rattle.std.specs.Prelude.{Result, option_map}
 use Rattle.cata_core.specs.Site.{SiteState}
-use Rattle.site_docs.specs.ReadsAs.{ReadsAsSite}
+use Rattle.site_docs.specs.Reading.{ReadsAsSite}
 use Rattle.front_core.specs.Ask.{IsAnswer, IsNoMemory, RefusesAnswer, RefusesDocument}
 use Rattle.front_core.specs.Ask.{AnswersBundle, AnswersFilter, AnswersLookup, IsFilter, IsLookup}
 use Rattle.front_core.specs.Ask.{IsLookupText, RefusesFilter, RefusesLookup}

@@ -1,6 +1,6 @@
 pub mod Calls
 pub mod Handles
-pub mod Held
 pub mod Question
 pub mod Reporting
+pub mod SiteHandleHeld
 pub mod Status

@@ -25,22 +25,22 @@ use Rattle.catalogue.specs.Entries.{Agree, Entries, Entry, IsBelowCells, joined}
 use Rattle.cell_core.specs.Entry.{key_cmp, key_cmp_exact, key_cmp_total}
 use Rattle.catalogue.specs.Entries.{catalogue_laws}
 use Rattle.cata_core.specs.Site.{SiteState}
-use Rattle.catalogue.proofs.ApplyLemmas.{with_none}
-use Rattle.cata_core.proofs.OwnEditsLemmas.{own_rises}
-use Rattle.map_docs.specs.LangMaps.{Labelled, labels_of}
+use Rattle.catalogue.proofs.CatalogueApplyLemmas.{with_none}
+use Rattle.cata_core.proofs.SiteOwnEditsLemmas.{own_rises}
+use Rattle.map_docs.specs.Maps.{Labelled, labels_of}
 use Rattle.map_docs.specs.declared.maps.KeyedLabel.{KeyedLabel}
-use Rattle.docs_core.specs.Imported.{Imports, puts_of}
-use Rattle.docs_core.specs.Made.{Change as MadeChange, Makes, with_change}
-use Rattle.docs_core.specs.Updated.{Updates}
-use Rattle.docs_core.proofs.ImportLaws.{import_leaves}
-use Rattle.docs_core.proofs.UpdateLaws.{keeps_cell}
+use Rattle.docs_core.specs.ImportingLabels.{Imports, puts_of}
+use Rattle.docs_core.specs.UpdatingChanges.{Change as MadeChange, Makes, with_change}
+use Rattle.docs_core.specs.Updating.{Updates}
+use Rattle.docs_core.proofs.ImportingLaws.{import_leaves}
+use Rattle.docs_core.proofs.UpdatingLaws.{keeps_cell}
 use Rattle.front_core.specs.Arrivals.{HasMore, IsKnown, KnowsMore}
 use Rattle.front_core.specs.Change.{IsChanged}
 use Rattle.front_core.specs.OpenSite.{IsJoined}
 use Rattle.front_core.specs.declared.change.Change.{Change}
-use Rattle.catalogue.proofs.JoinedLatestLemmas.{first_alone as alone}
+use Rattle.catalogue.proofs.CatalogueJoinedLatestLemmas.{first_alone as alone}
 use Rattle.list_core.proofs.Basics.{element_at as first_left}
-use Rattle.catalogue.proofs.BestLemmas.{same_key as one_key}
+use Rattle.catalogue.proofs.CatalogueBestLemmas.{same_key as one_key}
 use Rattle.front_core.proofs.SpareLemmas.{above_trans}
 
 -- ---- of one key

@@ -1,9 +1,9 @@
 pub mod ArrivalsLemmas
 pub mod OpenSiteLemmas
-pub mod PickLaws
 pub mod RefusalLemmas
 pub mod SpareLemmas
 pub mod TagFilterLemmas
+pub mod TagPickLaws
 pub mod TagPickLemmas
 pub mod TagsLemmas
 pub mod WrittenLemmas

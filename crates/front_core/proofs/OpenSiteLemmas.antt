@@ -6,13 +6,13 @@ use Rattle.catalogue.specs.Entries.{Entries, catalogue_laws}
 use Rattle.cata_core.specs.declared.delta.Delta.{Delta}
 use Rattle.catalogue.specs.declared.cata_fault.CataFault.{CataFault}
 use Rattle.catalogue.specs.declared.cata_fault.CataFault.TheVariants as cata
-use Rattle.json_docs.specs.Checks.{OrMemory}
+use Rattle.json_docs.specs.FaultChecks.{OrMemory}
 use Rattle.row_docs.specs.Reading.{no_memory}
-use Rattle.site_docs.specs.ReadsAs.{ReadsAsSite}
-use Rattle.site_docs.proofs.OneDocument.{one_delta}
-use Rattle.map_docs.specs.LangMapLabels.{AreLangMaps}
-use Rattle.map_docs.specs.LangMaps.{Labelled}
-use Rattle.docs_core.specs.Updated.{SpendsUpdate}
+use Rattle.site_docs.specs.Reading.{ReadsAsSite}
+use Rattle.site_docs.proofs.ReadingOneDocument.{one_delta}
+use Rattle.map_docs.specs.MapsLabels.{AreLangMaps}
+use Rattle.map_docs.specs.Maps.{Labelled}
+use Rattle.docs_core.specs.Updating.{SpendsUpdate}
 use Rattle.front_core.specs.Ask.{RefusesDocument}
 use Rattle.front_core.specs.Change.{IsDelete, IsPut, RefusesChange}
 use Rattle.front_core.specs.OpenSite.{IsJoined, IsMerged, IsPartlyJoined, IsTaken, LeavesMerge}

@@ -16,7 +16,7 @@ use Rattle.cell_core.specs.Entry.{key_cmp}
 use Rattle.catalogue.specs.Entries.{Agree, Entries, IsBelowCells, catalogue_laws, joined}
 use Rattle.cell_core.specs.Entry.{EntryKey, key_cmp_exact, key_cmp_total}
 use Rattle.cata_core.specs.Site.{SiteState}
-use Rattle.catalogue.proofs.StampOrderLemmas.{lt_self, not_lt_trans}
+use Rattle.catalogue.proofs.EditStampOrderLemmas.{lt_self, not_lt_trans}
 use Rattle.front_core.specs.OpenSite.{IsJoined}
 use Rattle.lang_core.proofs.Basics.{less_of}
 

@@ -10,15 +10,15 @@ use Rattle.cata_core.specs.Site.{SiteState}
 use Rattle.catalogue.specs.Asking.{IsLookupAnswerBy}
 use Rattle.catalogue.specs.Entries.{Entries}
 use Rattle.catalogue.specs.declared.reply.Reply.{Reply}
-use Rattle.json_docs.specs.Checks.{OrMemory}
+use Rattle.json_docs.specs.FaultChecks.{OrMemory}
 use Rattle.row_docs.specs.Reading.{IsOfDocument, no_memory}
-use Rattle.site_docs.specs.ReadsAs.{ReadsAsSite, RefusesSite}
-use Rattle.map_docs.specs.LangMapTexts.{AreWritten}
-use Rattle.map_docs.specs.LangMaps.{Labelled}
-use Rattle.query_docs.specs.Asks.{Answers, is_found as is_reply}
-use Rattle.query_docs.specs.Bundled.{IsBundleBy}
+use Rattle.site_docs.specs.Reading.{ReadsAsSite, RefusesSite}
+use Rattle.map_docs.specs.WritingTexts.{AreWritten}
+use Rattle.map_docs.specs.Maps.{Labelled}
+use Rattle.query_docs.specs.Asking.{Answers, is_found as is_reply}
+use Rattle.query_docs.specs.Bundling.{IsBundleBy}
 use Rattle.query_docs.specs.Lines.{reply_line}
-use Rattle.query_docs.specs.LooksUp.{answered}
+use Rattle.query_docs.specs.LiveCellsLookup.{answered}
 use Rattle.query_docs.specs.declared.asking.Ask.TheVariants as ask
 use Rattle.front_core.specs.Fault.{IsOf, document_fault, cell_fault, field_fault}
 use Rattle.front_core.specs.Preferences.{FieldText, ReadsAs, RefusesRanges, Text, ArePreferences}

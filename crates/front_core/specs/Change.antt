@@ -10,7 +10,7 @@ use Rattle.cell_core.specs.declared.fault.CellFault.{CellFault}
 use Rattle.cell_core.specs.Stamp.{IsNext}
 use Rattle.cell_core.specs.declared.stamp.Stamp.{Stamp}
 use Rattle.cell_core.specs.Entry.{EntryKey, key_cmp}
-use Rattle.catalogue.specs.Latest.{latest_of}
+use Rattle.catalogue.specs.CatalogueLatest.{latest_of}
 use Rattle.cata_core.specs.Site.{RefusesEdit, SiteState}
 use Rattle.json_docs.specs.Faults.{of_no_document}
 use Rattle.json_docs.specs.declared.fault.DocCause.TheVariants.{NotUtf8}

@@ -3,12 +3,12 @@ use Rattle.std.specs.Prelude.{◌≡◌}
 use Rattle.cata_core.specs.Delta.{delta_of, summary_of}
 use Rattle.cata_core.specs.Site.{SiteState}
 use Rattle.cata_core.specs.Summary.{SummaryState}
-use Rattle.json_docs.specs.Checks.{OrMemory}
-use Rattle.map_docs.specs.LangMapTexts.{IsTextOf}
+use Rattle.json_docs.specs.FaultChecks.{OrMemory}
+use Rattle.map_docs.specs.WritingTexts.{IsTextOf}
 use Rattle.row_docs.specs.Reading.{IsOfDocument, no_memory}
-use Rattle.site_docs.specs.ReadsAs.{IsDeltaText, IsSiteText, IsSummaryText, ReadsAsSite}
-use Rattle.site_docs.specs.ReadsAs.{ReadsAsSummary, RefusesSummary}
-use Rattle.query_docs.specs.Exported.{live_labels}
+use Rattle.site_docs.specs.Reading.{IsDeltaText, IsSiteText, IsSummaryText, ReadsAsSite}
+use Rattle.site_docs.specs.Reading.{ReadsAsSummary, RefusesSummary}
+use Rattle.query_docs.specs.Exporting.{live_labels}
 use Rattle.query_docs.specs.Status.{status_line}
 use Rattle.front_core.specs.Fault.{IsOf, document_fault}
 use Rattle.front_core.specs.Preferences.{Text}

@@ -9,13 +9,13 @@ use Rattle.catalogue.specs.CataFault.{IsRefusal}
 use Rattle.catalogue.specs.Entries.{Agree, Between, Entries, joined}
 use Rattle.cata_core.specs.declared.delta.Delta.{Delta}
 use Rattle.catalogue.specs.declared.cata_fault.CataFault.TheVariants.{ClockSpent}
-use Rattle.json_docs.specs.Checks.{OrMemory}
+use Rattle.json_docs.specs.FaultChecks.{OrMemory}
 use Rattle.row_docs.specs.Reading.{no_memory, IsOfDocument}
-use Rattle.map_docs.specs.LangMapLabels.{AreLangMaps, RefusesLangMaps}
-use Rattle.map_docs.specs.LangMaps.{Labelled}
+use Rattle.map_docs.specs.MapsLabels.{AreLangMaps, RefusesLangMaps}
+use Rattle.map_docs.specs.Maps.{Labelled}
 use Rattle.docs_core.specs.TimeLimits.{ReadsInTime, RefusesDeltaUntil}
-use Rattle.docs_core.specs.Imported.{Imports, SpendsImport}
-use Rattle.docs_core.specs.Updated.{SpendsUpdate, Updates}
+use Rattle.docs_core.specs.ImportingLabels.{Imports, SpendsImport}
+use Rattle.docs_core.specs.Updating.{SpendsUpdate, Updates}
 use Rattle.front_core.specs.Change.{HasKey, HasLabel, IsChanged, IsDelete, IsPut, RefusesChange}
 use Rattle.front_core.specs.Change.{RefusesKey, RefusesPut}
 use Rattle.front_core.specs.Fault.{IsOf, document_fault, site_fault}

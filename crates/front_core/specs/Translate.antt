@@ -3,8 +3,8 @@ use Rattle.std.specs.Prelude.{◌≡◌, ◌⊎◌}
 use Rattle.lang_core.specs.Lang.{RefusesLang, SpellsLang}
 use Rattle.catalogue.specs.Changes.{AreChanges, Changed}
 use Rattle.cata_core.specs.Site.{SiteState}
-use Rattle.map_docs.specs.LangMapTexts.{AreWritten}
-use Rattle.query_docs.specs.Changed.{changes_lines, has_change}
+use Rattle.map_docs.specs.WritingTexts.{AreWritten}
+use Rattle.query_docs.specs.Changes.{changes_lines, has_change}
 use Rattle.query_docs.specs.Missing.{missing_labels}
 use Rattle.query_docs.specs.Outdated.{outdated_labels}
 use Rattle.row_docs.specs.Fields.{IsSpelled}

@@ -15,7 +15,7 @@ pub enum Outcome {
 
 impl Outcome {
     ghost use Rattle.catalogue.specs.Reply.{reply_of};
-    ghost use Rattle.query_docs.specs.Asks.{is_found as is_reply};
+    ghost use Rattle.query_docs.specs.Asking.{is_found as is_reply};
     ghost use Rattle.front_core.specs.Ask.{is_found};
 
     /// `Found` if `found`, else `Nothing`.

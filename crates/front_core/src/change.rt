@@ -24,7 +24,7 @@ pub struct Change {
 
 impl Change {
     ghost use Rattle.std.specs.Prelude.{◌≡◌, map, IfErr, MatchResult, OnErr, OnOk};
-    ghost use Rattle.json_docs.specs.Checks.{OrMemory};
+    ghost use Rattle.json_docs.specs.FaultChecks.{OrMemory};
     ghost use Rattle.row_docs.specs.Reading.{no_memory};
     ghost use Rattle.docs_core.specs.Calls.{IsEdited, RefusesEditing};
     ghost use Rattle.front_core.specs.Change.{IsChanged, IsDelete, IsPut, IsPutOf, RefusesChange};

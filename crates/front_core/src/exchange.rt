@@ -27,9 +27,9 @@ pub enum View {
 
 impl View {
     ghost use Rattle.std.specs.Prelude.{IfOk, MatchResult};
-    ghost use Rattle.json_docs.specs.Checks.{OrMemory};
+    ghost use Rattle.json_docs.specs.FaultChecks.{OrMemory};
     ghost use Rattle.row_docs.specs.Reading.{IsOfDocument, no_memory};
-    ghost use Rattle.site_docs.specs.ReadsAs.{ReadsAsSite, RefusesSite};
+    ghost use Rattle.site_docs.specs.Reading.{ReadsAsSite, RefusesSite};
     ghost use Rattle.front_core.specs.Exchange.{IsView, IsViewOf};
 
     /// The text of the site of a document.

@@ -42,7 +42,7 @@ impl Model for OpenSite {
 
 impl OpenSite {
     ghost use Rattle.std.specs.Prelude.{◌≡◌, ◌≢◌, IfErr, IfOk, MatchResult, OnErr, OnOk};
-    ghost use Rattle.site_docs.specs.ReadsAs.{ReadsAsSite};
+    ghost use Rattle.site_docs.specs.Reading.{ReadsAsSite};
     ghost use Rattle.front_core.specs.Ask.{RefusesDocument};
     ghost use Rattle.front_core.specs.OpenSite.{IsDeleted, IsMerged, IsPutInto, IsTaken};
     ghost use Rattle.front_core.specs.OpenSite.{LeavesMerge, LeavesTake, OrNoMemory, RefusesDelete};

@@ -1,10 +1,10 @@
-pub mod Arrays
-pub mod Checks
+pub mod FaultChecks
 pub mod Faults
-pub mod LastMember
-pub mod MembersRead
 pub mod Numbers
+pub mod ObjectLastMember
+pub mod ObjectMembersRead
 pub mod Parts
-pub mod Reads
+pub mod ScanningArrays
+pub mod ScanningReads
 pub mod Sinks
 pub mod Sources

@@ -4,7 +4,7 @@ ghost use Rattle.json.specs.Json as json;
 ghost use Rattle.serde_json.specs.Data.{Data, Members, no_members};
 ghost use Rattle.serde_json.specs.Find.{get_member};
 ghost use Rattle.serde_json.specs.Read.{of_json, of_members};
-ghost use Rattle.json_docs.specs.LastMember.{HasNo, and_then};
+ghost use Rattle.json_docs.specs.ObjectLastMember.{HasNo, and_then};
 
 /// Of an object's members that have one name the last counts.
 pub fn the_last_member_counts()

@@ -15,14 +15,14 @@ use Rattle.lang_core.specs.Grammar.{is_script, is_region, is_variant, is_x, is_s
 use Rattle.lang_core.specs.Grammar.{is_extension_piece, is_private_piece, is_irregular, irregular}
 use Rattle.lang_core.specs.Grammar.{AreAll, IsLanguage, IsExtension, IsPrivate, IsMaybePrivate}
 use Rattle.lang_core.specs.Grammar.{IsLangtag}
-use Rattle.lang_core.specs.Runs.{begins_with, IsSplit}
+use Rattle.lang_core.specs.SubtagsRuns.{begins_with, IsSplit}
 use Rattle.lang_core.specs.Parts.{HaveSameParts, after_language, after_extlangs, after_script}
 use Rattle.lang_core.specs.Parts.{after_region, after_variants}
 use Rattle.lang_core.proofs.Basics.{each_true, both, one_true, is_false, not_true, true_not}
-use Rattle.lang_core.proofs.Classes.{single, size_x, x_singleton}
+use Rattle.lang_core.proofs.KindLemmas.{single, size_x, x_singleton}
 use Rattle.lang_core.proofs.PartsLemmas.{split_extlangs, split_script, split_region, split_variants}
 use Rattle.lang_core.proofs.PartsLemmas.{no_langtag, x_text}
-use Rattle.lang_core.proofs.RunsLemmas.{one_split}
+use Rattle.lang_core.proofs.SubtagsRunsLemmas.{one_split}
 use Rattle.lang_core.proofs.StageComplete.{accepted}
 
 -- ---- the extensions end at the "x" of private use

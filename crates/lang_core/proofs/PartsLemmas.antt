@@ -17,15 +17,16 @@ use Rattle.lang_core.specs.Grammar.{is_short_language, is_long_language, is_extl
 use Rattle.lang_core.specs.Grammar.{is_region, is_variant, is_x, is_private_piece, AreAll}
 use Rattle.lang_core.specs.Grammar.{IsAtMostOne, IsLanguage, IsExtension, IsPrivate}
 use Rattle.lang_core.specs.Grammar.{IsMaybePrivate, IsLangtag, are_allowed, tag_piece}
-use Rattle.lang_core.specs.Runs.{begins_with, IsSplit}
+use Rattle.lang_core.specs.SubtagsRuns.{begins_with, IsSplit}
 use Rattle.lang_core.specs.Parts.{IsPart, IsRest, language_of, extlangs_of, script_of, region_of}
 use Rattle.lang_core.specs.Parts.{variants_of, after_language, after_extlangs, after_script}
 use Rattle.lang_core.specs.Parts.{after_region, after_variants}
 use Rattle.lang_core.proofs.Basics.{each_true, both, one_true}
-use Rattle.lang_core.proofs.Classes.{single, size_x, size_singleton, variant_only, region_extlang}
-use Rattle.lang_core.proofs.Classes.{region_script, script_extlang, short_run, long_run}
+use Rattle.lang_core.proofs.KindLemmas.{single, size_x, size_singleton, variant_only}
+use Rattle.lang_core.proofs.KindLemmas.{region_extlang}
+use Rattle.lang_core.proofs.KindLemmas.{region_script, script_extlang, short_run, long_run}
 use Rattle.lang_core.proofs.PiecesLemmas.{pieces-lower}
-use Rattle.lang_core.proofs.RunsLemmas.{one_split, split_none, all_parts}
+use Rattle.lang_core.proofs.SubtagsRunsLemmas.{one_split, split_none, all_parts}
 use Rattle.lang_core.proofs.StageComplete.{accepted}
 use Rattle.lang_core.proofs.StageSound.{follows}
 use Rattle.lang_core.proofs.SubtagLemmas.{lowered_pieces}

@@ -18,7 +18,7 @@ use Rattle.std.proofs.lemmas.List.Splits.{slice_split-cons_no, length-slice_spli
 use Rattle.std.proofs.lemmas.List.Splits.{join_with_byte-slice_split}
 use Rattle.lang_core.specs.Text.{pieces_by, pieces, joined}
 use Rattle.lang_core.proofs.Basics.{cases_bool}
-use Rattle.lang_core.proofs.CaseLemmas.{lower_hyphen, lowered}
+use Rattle.lang_core.proofs.SubtagCaseLemmas.{lower_hyphen, lowered}
 
 -- Where a choice between a value and none is none, its test is false.
 pub cond_none : (b : Bool) (x : ℕ) → cond b (Some x) None ≡ None → b ≡ false

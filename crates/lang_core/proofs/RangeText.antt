@@ -12,9 +12,9 @@ use Rattle.lang_core.specs.Grammar.{is_private_piece, is_star, basic_piece, exte
 use Rattle.lang_core.specs.Grammar.{BasicRange, ExtendedRange, IsFirstRefused}
 use Rattle.lang_core.specs.LowerText.{is_nonzero_ascii, IsNonzeroAscii}
 use Rattle.lang_core.proofs.Basics.{cases_bool, each_true, both, one_true, or_left, or_right}
-use Rattle.lang_core.proofs.Classes.{run_of}
+use Rattle.lang_core.proofs.KindLemmas.{run_of}
 use Rattle.lang_core.proofs.PiecesLemmas.{joined-pieces, some_pieces}
-use Rattle.lang_core.proofs.Stars.{star_self}
+use Rattle.lang_core.proofs.RangeStars.{star_self}
 
 -- a walk that is refused somewhere is not allowed as a whole
 allowed_front : (allowed : ℕ → List ℕ → Bool) (from : ℕ) (before after : List (List ℕ))

@@ -13,9 +13,9 @@ use Rattle.lang_core.specs.declared.stage.Stage.TheVariants.{Start, Language, Sc
 use Rattle.lang_core.specs.declared.stage.Stage.TheVariants.{Singleton, Extension, PrivateStart}
 use Rattle.lang_core.specs.declared.stage.Stage.TheVariants.{Private}
 use Rattle.lang_core.proofs.Basics.{each_true, one_true, and_false, is_lt}
-use Rattle.lang_core.proofs.Classes.{size_x, x_singleton, IsSingle, single, variant_only}
-use Rattle.lang_core.proofs.Classes.{region_extlang, region_script, script_extlang, long_short}
-use Rattle.lang_core.proofs.Classes.{size_singleton}
+use Rattle.lang_core.proofs.KindLemmas.{size_x, x_singleton, IsSingle, single, variant_only}
+use Rattle.lang_core.proofs.KindLemmas.{region_extlang, region_script, script_extlang, long_short}
+use Rattle.lang_core.proofs.KindLemmas.{size_singleton}
 
 -- a stage at which a tag may end, and after which an extension or a private part may come
 pub record CanEnd (stage : Stage) : Type 0 where

@@ -11,8 +11,8 @@ use Rattle.lang_core.specs.Text.{pieces, joined}
 use Rattle.lang_core.specs.Grammar.{is_run, is_letter, is_digit, is_alphanum, is_private_piece}
 use Rattle.lang_core.specs.Grammar.{basic_piece, AreAll}
 use Rattle.lang_core.proofs.Basics.{both, each_true, is_false, is_le, or_left}
-use Rattle.lang_core.proofs.CaseLemmas.{alphanums-lower, lower_alphanums, lowered}
-use Rattle.lang_core.proofs.Classes.{run_of}
+use Rattle.lang_core.proofs.SubtagCaseLemmas.{alphanums-lower, lower_alphanums, lowered}
+use Rattle.lang_core.proofs.KindLemmas.{run_of}
 use Rattle.lang_core.proofs.PiecesLemmas.{pieces_no_hyphen, pieces_join}
 
 -- ---- a kept test answers for the whole subtag

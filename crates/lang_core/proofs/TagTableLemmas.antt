@@ -21,7 +21,7 @@ use Rattle.lang_core.specs.declared.stage.Stage.TheVariants.{Start, Language, Sc
 use Rattle.lang_core.specs.declared.stage.Stage.TheVariants.{Singleton, Extension, PrivateStart}
 use Rattle.lang_core.specs.declared.stage.Stage.TheVariants.{Private}
 use Rattle.lang_core.proofs.Basics.{cases_bool, each_true, both, is_false, le_is, is_le, lt_is}
-use Rattle.lang_core.proofs.Classes.{run_of}
+use Rattle.lang_core.proofs.KindLemmas.{run_of}
 use Rattle.lang_core.proofs.GrammarLemmas.{accepts_next}
 use Rattle.lang_core.proofs.PiecesLemmas.{some_pieces}
 use Rattle.lang_core.proofs.TagStates.{states}

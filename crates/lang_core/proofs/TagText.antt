@@ -9,7 +9,7 @@ use Rattle.lang_core.specs.Grammar.{are_allowed, tag_piece, is_alphanum, is_priv
 use Rattle.lang_core.specs.LowerText.{is_nonzero_ascii, IsNonzeroAscii}
 use Rattle.lang_core.specs.Tag.{HasSubtags}
 use Rattle.lang_core.proofs.Basics.{cases_bool, each_true, both}
-use Rattle.lang_core.proofs.Classes.{run_of}
+use Rattle.lang_core.proofs.KindLemmas.{run_of}
 
 -- A small letter or digit is ASCII other than zero.
 pub alphanum_nonzero : (b : ℕ) → is_alphanum b ≡ true → is_nonzero_ascii b ≡ true

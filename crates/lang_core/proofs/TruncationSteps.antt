@@ -5,12 +5,13 @@ use Rattle.std.specs.Prelude.{zero, suc, ◌&&◌}
 use Rattle.std.specs.List.{list_all}
 use Rattle.std.proofs.lemmas.List.Folds.{list_all-append}
 use Rattle.lang_core.specs.Grammar.{BasicRange, basic_piece, are_allowed, is_star}
-use Rattle.lang_core.specs.Candidates.{is_single, is_cut, last_of, truncated, candidates}
-use Rattle.lang_core.specs.Candidates.{without_last, without_last_singles, shortened}
-use Rattle.lang_core.specs.Candidates.{candidates_left}
+use Rattle.lang_core.specs.TruncationsCandidates.{is_single, is_cut, last_of, truncated, candidates}
+use Rattle.lang_core.specs.TruncationsCandidates.{without_last, without_last_singles, shortened}
+use Rattle.lang_core.specs.TruncationsCandidates.{candidates_left}
 use Rattle.lang_core.proofs.Basics.{cases_bool, each_true, both, and_false}
-use Rattle.lang_core.proofs.CandidateLemmas.{truncated_one, truncated_push, is_cut_one, is_cut_push}
-use Rattle.lang_core.proofs.LookupLemmas.{no_star}
+use Rattle.lang_core.proofs.TruncationsLemmas.{truncated_one, truncated_push, is_cut_one}
+use Rattle.lang_core.proofs.TruncationsLemmas.{is_cut_push}
+use Rattle.lang_core.proofs.LookupTextLemmas.{no_star}
 use Rattle.lang_core.proofs.TagTableLemmas.{and_true}
 
 -- ---- a list and its last subtag

@@ -38,7 +38,7 @@ impl Model for Lang {
 
     ghost Value = { List ℕ };
 
-    ghost use Rattle.lang_core.specs.Choice.{choice_text, HoldsTag};
+    ghost use Rattle.lang_core.specs.LangText.{choice_text, HoldsTag};
 
     ghost view = { λ l. choice_text l.choice };
 

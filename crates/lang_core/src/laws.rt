@@ -9,7 +9,7 @@ ghost use Rattle.lang_core.specs.Parts.{region_of, variants_of};
 ghost use Rattle.lang_core.specs.Lang.{none_text};
 ghost use Rattle.lang_core.specs.Matching.{Basic, BasicInBytes, Embeds, greedy, is_basic_match};
 ghost use Rattle.lang_core.specs.Matching.{without_stars, as_basic};
-ghost use Rattle.lang_core.specs.Candidates.{candidates, candidates_left, shortened};
+ghost use Rattle.lang_core.specs.TruncationsCandidates.{candidates, candidates_left, shortened};
 
 /// A range's subtags other than "*" embed in a tag's exactly where pairing them greedily succeeds
 /// (RFC 4647 section 3.3.2).

@@ -29,7 +29,7 @@ pub(crate) struct LowerText {
 
 impl Model for LowerText {
     ghost use Rattle.std.specs.Prelude.{List, ℕ};
-    ghost use Rattle.lang_core.specs.Kept.{kept_bytes, IsKept};
+    ghost use Rattle.lang_core.specs.LowerTextBytes.{kept_bytes, IsKept};
 
     ghost Value = { List ℕ };
 

@@ -8,7 +8,7 @@ ghost use Rattle.lang_core.specs.Text.{pieces, subtags};
 ghost use Rattle.lang_core.specs.Grammar.{BasicRange, ExtendedRange, basic_piece, extended_piece};
 ghost use Rattle.lang_core.specs.Range.{IsRange, RangeTakesMemory, RefusesRange};
 ghost use Rattle.lang_core.specs.Matching.{Basic, Extended, as_basic, is_basic_match, specificity};
-ghost use Rattle.lang_core.specs.Candidates.{candidates};
+ghost use Rattle.lang_core.specs.TruncationsCandidates.{candidates};
 ghost use Rattle.lang_core.specs.LookupText.{lookup_text};
 ghost use Rattle.lang_core.specs.Subtags.{subtags_left};
 ghost use Rattle.lang_core.specs.Truncations.{truncations_left};

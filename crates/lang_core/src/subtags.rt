@@ -4,7 +4,7 @@ ghost use Rattle.std.specs.Iterator.{YieldsFirstBy, item_count};
 ghost use Rattle.lang_core.specs.Text.{pieces};
 ghost use Rattle.lang_core.specs.Grammar.{AreAll, is_private_piece};
 ghost use Rattle.lang_core.specs.Kind.{is_of};
-ghost use Rattle.lang_core.specs.Runs.{IsSplit, TakesRun};
+ghost use Rattle.lang_core.specs.SubtagsRuns.{IsSplit, TakesRun};
 
 use crate::kind::Kind;
 use crate::pieces::{HYPHEN, separator_at};

@@ -4,7 +4,7 @@ ghost use Rattle.std.specs.Prelude.{slice_index, MatchOption, IfSome};
 ghost use Rattle.std.specs.Iterator.{YieldsFirstBy, item_count};
 ghost use Rattle.lang_core.specs.Text.{pieces};
 ghost use Rattle.lang_core.specs.Grammar.{is_star};
-ghost use Rattle.lang_core.specs.Candidates.{candidates, truncated, is_cut, is_single};
+ghost use Rattle.lang_core.specs.TruncationsCandidates.{candidates, truncated, is_cut, is_single};
 
 use crate::pieces::HYPHEN;
 use crate::range_syntax::is_star;

@@ -22,8 +22,9 @@ use Rattle.lang_core.specs.Grammar.{is_star}
 use Rattle.lang_core.specs.Matching.{Embeds, Extended, without_stars, specificity}
 use Rattle.list_core.proofs.Basics.{false_true, contains_first, contains_later, contains_cases}
 use Rattle.list_core.proofs.Basics.{same_at}
-use Rattle.list_core.proofs.MostSpecificLemmas.{best_same, better_joins, Before, passed, newest}
-use Rattle.list_core.proofs.MostSpecificLemmas.{passed_to, all_before}
+use Rattle.list_core.proofs.DecidingMostSpecificLemmas.{best_same, better_joins, Before, passed}
+use Rattle.list_core.proofs.DecidingMostSpecificLemmas.{newest}
+use Rattle.list_core.proofs.DecidingMostSpecificLemmas.{passed_to, all_before}
 use Rattle.list_core.specs.Deciding.{IsBest, better_of, is_above}
 use Rattle.list_core.specs.declared.deciding.MostSpecific.{MostSpecific}
 use Rattle.list_core.specs.Item.{Item}

@@ -10,9 +10,11 @@ use Rattle.lang_core.specs.Matching.{Basic}
 use Rattle.std.specs.Str.{bytes_eq}
 use Rattle.std.proofs.lemmas.Slice.Eq.{bytes_eq-Decides}
 use Rattle.list_core.proofs.Basics.{same_at, stands_at}
-use Rattle.list_core.proofs.Prefixes.{IsTextFront, joined-pieces, star_pieces, front_of_text}
-use Rattle.list_core.proofs.Prefixes.{text_of_front, front_within, front_is_take, take_is_front}
-use Rattle.list_core.proofs.MostSpecificLemmas.{best_same, better_joins}
+use Rattle.list_core.proofs.FirstTriedPrefixes.{IsTextFront, joined-pieces, star_pieces}
+use Rattle.list_core.proofs.FirstTriedPrefixes.{front_of_text}
+use Rattle.list_core.proofs.FirstTriedPrefixes.{text_of_front, front_within, front_is_take}
+use Rattle.list_core.proofs.FirstTriedPrefixes.{take_is_front}
+use Rattle.list_core.proofs.DecidingMostSpecificLemmas.{best_same, better_joins}
 use Rattle.list_core.specs.Item.{Item}
 use Rattle.list_core.specs.Basics.{IsTheOne}
 use Rattle.list_core.specs.Deciding.{better_of, IsBestOf, IsBest, Matches, IsMostSpecific}

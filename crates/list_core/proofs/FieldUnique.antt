@@ -3,7 +3,7 @@ use Rattle.std.proofs.Common.{ℕ, ◌≡◌, List, [], ◌∷◌, inl, inr, ref
 use Rattle.std.specs.Str.{str_to_ascii_lowercase}
 use Rattle.lang_core.specs.Text.{pieces_by}
 use Rattle.list_core.proofs.WeightLemmas.{one_tail}
-use Rattle.list_core.proofs.ElementLemmas.{start_of_padded, start_is}
+use Rattle.list_core.proofs.FieldElementLemmas.{start_of_padded, start_is}
 use Rattle.list_core.proofs.FieldWalk.{none_not_padded}
 use Rattle.list_core.specs.Item.{Item}
 use Rattle.list_core.specs.Weight.{skip_blanks}

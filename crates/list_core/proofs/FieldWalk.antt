@@ -5,9 +5,9 @@ use Rattle.std.specs.List.{prefix_len}
 use Rattle.std.proofs.lemmas.Bool.{cases_Bool}
 use Rattle.std.proofs.lemmas.List.Sums.{sum_by-append}
 use Rattle.lang_core.specs.Text.{pieces_by}
-use Rattle.lang_core.proofs.RunsLemmas.{regroup}
+use Rattle.lang_core.proofs.SubtagsRunsLemmas.{regroup}
 use Rattle.list_core.proofs.WeightLemmas.{skip_only, trimmed}
-use Rattle.list_core.proofs.ElementLemmas.{start_of_padded, start_some, padded_of_start}
+use Rattle.list_core.proofs.FieldElementLemmas.{start_of_padded, start_some, padded_of_start}
 use Rattle.list_core.specs.Weight.{is_blank, AreBlanks, skip_blanks}
 use Rattle.list_core.specs.Field.{IsPadded, IsStart, HasStart}
 use Rattle.list_core.specs.Field.{GivesNone, ArePieces, IsField, IsReadTo, IsFirstMalformed}

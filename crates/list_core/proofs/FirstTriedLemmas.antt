@@ -20,8 +20,10 @@ use Rattle.list_core.specs.declared.lookup_order.OrderKey.{OrderKey}
 use Rattle.list_core.specs.declared.scheme.Scheme.{Scheme}
 use Rattle.list_core.proofs.LookupOrderLemmas.{one_keys}
 use Rattle.list_core.proofs.Basics.{same_at, same_default, stands_at}
-use Rattle.list_core.proofs.Prefixes.{IsTextFront, front_is_take, front_of_text, front_within}
-use Rattle.list_core.proofs.Prefixes.{joined-pieces, star_pieces, take_is_front, text_of_front}
+use Rattle.list_core.proofs.FirstTriedPrefixes.{IsTextFront, front_is_take, front_of_text}
+use Rattle.list_core.proofs.FirstTriedPrefixes.{front_within}
+use Rattle.list_core.proofs.FirstTriedPrefixes.{joined-pieces, star_pieces, take_is_front}
+use Rattle.list_core.proofs.FirstTriedPrefixes.{text_of_front}
 
 -- ---- the first keys
 

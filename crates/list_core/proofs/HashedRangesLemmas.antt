@@ -11,7 +11,7 @@ use Rattle.std.proofs.lemmas.List.{length-map, get_or-map}
 use Rattle.std.proofs.lemmas.List.{length-set, get_or-set_same, get_or-set_other, take_all}
 use Rattle.std.proofs.lemmas.List.Sums.{count_by_more_yes, count_by_more_no, sum_by-take-le}
 use Rattle.std.proofs.lemmas.Option.{slice_get_within, get_or_from_slice_get}
-use Rattle.lang_core.proofs.ClassSums.{no_test as number_differs}
+use Rattle.lang_core.proofs.SubtagClassSums.{no_test as number_differs}
 use Rattle.list_core.proofs.IndexLemmas.{NoneBefore, none_here}
 use Rattle.list_core.specs.Item.{Item}
 use Rattle.list_core.specs.Fingerprint.{fingerprint_of}

@@ -20,7 +20,7 @@ use Rattle.std.proofs.lemmas.List.Sorted.{sorted_far, ranks_by, All-permutation}
 use Rattle.std.proofs.lemmas.List.Sorted.{Contains-permutation, IsPermutation-map}
 use Rattle.lang_core.proofs.Basics.{less_of as less_is}
 use Rattle.list_core.proofs.Basics.{false_true, same_default, same_at, stands_at}
-use Rattle.list_core.proofs.Unique.{text_tied}
+use Rattle.list_core.proofs.IndexUnique.{text_tied}
 use Rattle.list_core.specs.Item.{Item}
 use Rattle.list_core.specs.Index.{text_at, place_cmp, range_key_cmp, IsRangeIndex, IsRangeKeyOf}
 use Rattle.list_core.specs.Index.{AreRangeKeys, IsSeat, IsFirstWith, MatchFirst}

@@ -4,7 +4,7 @@ use Rattle.std.specs.declared.cmp.Ordering.TheVariants.{Equal}
 use Rattle.std.specs.Cmp.{IsTotalOrder}
 use Rattle.std.specs.List.{filter_map, slice_get}
 use Rattle.std.proofs.lemmas.Cmp.{nat_cmp_total, on_total, then_total}
-use Rattle.list_core.proofs.Unique.{one_order, then_tied, nat_tied}
+use Rattle.list_core.proofs.IndexUnique.{one_order, then_tied, nat_tied}
 use Rattle.list_core.specs.Item.{Item}
 use Rattle.list_core.specs.LookupOrder.{AreOrderKeys, IsOrder, order_key_cmp, order_keys_from}
 use Rattle.list_core.specs.declared.lookup_order.OrderKey.{OrderKey}

@@ -19,8 +19,8 @@ use Rattle.lang_core.specs.Matching.{Extended, greedy}
 use Rattle.list_core.specs.PackedTag.{is_packable, packed, all_packed, greedy_packed}
 use Rattle.list_core.specs.PackedTag.{extended_packed}
 use Rattle.lang_core.proofs.Basics.{each_true, both, one_true, or_left, or_right, is_lt}
-use Rattle.lang_core.proofs.Classes.{run_of}
-use Rattle.lang_core.proofs.Embedding.{embeds_of_greedy, greedy_of_embeds}
+use Rattle.lang_core.proofs.KindLemmas.{run_of}
+use Rattle.lang_core.proofs.MatchingEmbedding.{embeds_of_greedy, greedy_of_embeds}
 use Rattle.lang_core.proofs.PiecesLemmas.{size_pieces, size_cons}
 use Rattle.lang_core.proofs.RangeText.{allowed_of_list}
 use Rattle.lang_core.proofs.TagText.{alphanum_nonzero}

@@ -9,7 +9,7 @@ use Rattle.std.proofs.lemmas.Bool.{and_from, and_parts, cases_Bool}
 use Rattle.std.proofs.lemmas.Bool.Decides.{nat_tests}
 use Rattle.lang_core.specs.Grammar.{is_digit}
 use Rattle.list_core.proofs.Basics.{the_one}
-use Rattle.list_core.proofs.BlanksLemmas.{cut_only, cut_front, blanks_end}
+use Rattle.list_core.proofs.WeightBlanksLemmas.{cut_only, cut_front, blanks_end}
 use Rattle.list_core.specs.Field.{WeightGrammar}
 use Rattle.list_core.specs.declared.scheme.Scheme.{Scheme}
 use Rattle.list_core.specs.declared.scheme.Scheme.TheVariants.{Basic, Extended}

@@ -13,8 +13,8 @@ use Rattle.std.specs.declared.cmp.Ordering.TheVariants.{Less}
 use Rattle.std.proofs.lemmas.List.Elements.{All-cons, All-nil}
 use Rattle.std.proofs.lemmas.Option.{none-some}
 use Rattle.catalogue.proofs.Basics.{some_same}
-use Rattle.catalogue.proofs.FlatLemmas.{all_first, all_rest}
-use Rattle.cell_core.specs.Above.{IsAboveAll}
+use Rattle.catalogue.proofs.CatalogueFlatLemmas.{all_first, all_rest}
+use Rattle.cell_core.specs.KeyedAbove.{IsAboveAll}
 
 -- No keys ascend.
 pub none_sorted : {K : Type 0} (X : Type 0) (cmp : K → K → Ordering)

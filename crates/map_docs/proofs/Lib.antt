@@ -1,9 +1,9 @@
 pub mod AscendingMapLemmas
-pub mod LangMapFieldsLemmas
-pub mod LangMapLabelsLemmas
-pub mod LangMapLawsLemmas
-pub mod LangMapMembersLemmas
-pub mod LangMapTripLemmas
-pub mod LangMapsLemmas
+pub mod LabelsFieldsLemmas
+pub mod MapsLabelsLemmas
+pub mod MapsLawsLemmas
+pub mod MapsLemmas
+pub mod MembersLemmas
 pub mod RisingLemmas
 pub mod WritingLemmas
+pub mod WritingTripLemmas

@@ -19,35 +19,35 @@ use Rattle.json.specs.Token.{Token}
 use Rattle.serde_json.specs.Data.{Data, Items, Members, array, put, string}
 use Rattle.serde_json.specs.Find.{as_str}
 use Rattle.serde_json.specs.Read.{converted, of_json}
-use Rattle.cell_core.specs.Above.{IsAboveAll as IsAbove}
+use Rattle.cell_core.specs.KeyedAbove.{IsAboveAll as IsAbove}
 use Rattle.cell_core.specs.Label.{IsLabel}
 use Rattle.cell_core.specs.Keyed.{IsMap}
 use Rattle.cell_core.specs.MessageId.{IsMessageId}
 use Rattle.lang_core.specs.Lang.{SpellsLang}
 use Rattle.cell_core.specs.Entry.{key_cmp, text_cmp}
 use Rattle.catalogue.specs.Entries.{IsAboveAll}
-use Rattle.catalogue.specs.Flat.{under}
-use Rattle.catalogue.proofs.BehindLemmas.{IsMap-behind}
-use Rattle.catalogue.proofs.FlatLemmas.{all_first, all_rest}
-use Rattle.json_docs.proofs.ReadingLemmas.{converted-array}
-use Rattle.json_docs.specs.Arrays.{ReadsItems}
-use Rattle.json_docs.specs.Checks.{AllPass}
-use Rattle.json_docs.specs.Reads.{Reads}
-use Rattle.map_docs.specs.LangMapChecks.{IsLabelOrNone, is_marked, is_repeated}
-use Rattle.map_docs.specs.LangMapChecks.{keys_checks, members_checks, message_checks, unless_marked}
-use Rattle.map_docs.specs.LangMapLabels.{labelled, languages_of, rows_labels}
-use Rattle.map_docs.specs.LangMapRows.{Keys, Rows, Strings, is_string_or_null, members_by}
-use Rattle.map_docs.specs.LangMapRows.{strings_of}
-use Rattle.map_docs.specs.LangMapRowsSeen.{AreLesser}
-use Rattle.map_docs.specs.LangMaps.{Labelled}
-use Rattle.map_docs.specs.LangMapsValue.{Languages}
+use Rattle.catalogue.specs.CatalogueFlat.{under}
+use Rattle.catalogue.proofs.CatalogueAboveLemmas.{IsMap-behind}
+use Rattle.catalogue.proofs.CatalogueFlatLemmas.{all_first, all_rest}
+use Rattle.json_docs.proofs.ScanningReadingLemmas.{converted-array}
+use Rattle.json_docs.specs.ScanningArrays.{ReadsItems}
+use Rattle.json_docs.specs.FaultChecks.{AllPass}
+use Rattle.json_docs.specs.ScanningReads.{Reads}
+use Rattle.map_docs.specs.LabelsChecks.{IsLabelOrNone, is_marked, is_repeated}
+use Rattle.map_docs.specs.LabelsChecks.{keys_checks, members_checks, message_checks, unless_marked}
+use Rattle.map_docs.specs.MapsLabels.{labelled, languages_of, rows_labels}
+use Rattle.map_docs.specs.MembersRows.{Keys, Rows, Strings, is_string_or_null, members_by}
+use Rattle.map_docs.specs.MembersRows.{strings_of}
+use Rattle.map_docs.specs.MembersRowsSeen.{AreLesser}
+use Rattle.map_docs.specs.Maps.{Labelled}
+use Rattle.map_docs.specs.MapsValue.{Languages}
 use Rattle.map_docs.specs.RisingLabels.{Takes}
 use Rattle.map_docs.proofs.AscendingMapLemmas.{inserted_at_end}
-use Rattle.map_docs.proofs.LangMapLabelsLemmas.{all_under, insert_is_put, keys_pass, lesser_key}
-use Rattle.map_docs.proofs.LangMapLabelsLemmas.{row_unmarked, rows_labels_one, rows_pass, same_id}
-use Rattle.map_docs.proofs.LangMapLabelsLemmas.{spelled_lower}
-use Rattle.map_docs.proofs.LangMapMembersLemmas.{members_by-put}
-use Rattle.map_docs.proofs.LangMapTripLemmas.{unmarked}
+use Rattle.map_docs.proofs.MapsLabelsLemmas.{all_under, insert_is_put, keys_pass, lesser_key}
+use Rattle.map_docs.proofs.MapsLabelsLemmas.{row_unmarked, rows_labels_one, rows_pass, same_id}
+use Rattle.map_docs.proofs.MapsLabelsLemmas.{spelled_lower}
+use Rattle.map_docs.proofs.MembersLemmas.{members_by-put}
+use Rattle.map_docs.proofs.WritingTripLemmas.{unmarked}
 
 -- ---- a member more
 

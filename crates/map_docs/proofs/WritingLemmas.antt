@@ -8,16 +8,16 @@ use Rattle.cell_core.specs.MessageId.{IsMessageId}
 use Rattle.cell_core.specs.Entry.{key_cmp}
 use Rattle.json.specs.Token.{begin_object}
 use Rattle.json.specs.Written.{Written}
-use Rattle.row_docs.specs.Texts.{Adds, text}
-use Rattle.row_docs.proofs.TextsLemmas.{Adds-then}
-use Rattle.map_docs.specs.LangMapLabels.{AreLangMaps}
-use Rattle.map_docs.specs.LangMapLaws.{AreWritable, IsWritable}
-use Rattle.map_docs.specs.LangMapTexts.{IsTextOf, has_label}
-use Rattle.map_docs.specs.LangMaps.{Labelled}
-use Rattle.map_docs.specs.LangMapsValue.{langmaps_value}
-use Rattle.map_docs.specs.LangMapsWritten.{IsWriting, label_tokens, labels_tokens, opening_tokens}
-use Rattle.map_docs.proofs.LangMapTripLemmas.{reads_back}
-use Rattle.map_docs.proofs.LangMapsLemmas.{one_written}
+use Rattle.row_docs.specs.WritingTexts.{Adds, text}
+use Rattle.row_docs.proofs.WritingTextsLemmas.{Adds-then}
+use Rattle.map_docs.specs.MapsLabels.{AreLangMaps}
+use Rattle.map_docs.specs.MapsLaws.{AreWritable, IsWritable}
+use Rattle.map_docs.specs.WritingTexts.{IsTextOf, has_label}
+use Rattle.map_docs.specs.Maps.{Labelled}
+use Rattle.map_docs.specs.MapsValue.{langmaps_value}
+use Rattle.map_docs.specs.WritingMaps.{IsWriting, label_tokens, labels_tokens, opening_tokens}
+use Rattle.map_docs.proofs.WritingTripLemmas.{reads_back}
+use Rattle.map_docs.proofs.MapsLemmas.{one_written}
 
 or_true : (b : Bool) → (b || true) ≡ true
 or_true true = refl

@@ -2,13 +2,13 @@
 use Rattle.std.specs.Prelude.{ℕ, List, [], ◌++◌}
 use Rattle.cell_core.specs.Keyed.{IsMap}
 use Rattle.cell_core.specs.Entry.{key_cmp}
-use Rattle.catalogue.specs.Flat.{under}
-use Rattle.json_docs.specs.Checks.{AllPass}
-use Rattle.map_docs.specs.LangMapChecks.{keys_checks}
-use Rattle.map_docs.specs.LangMapLabels.{languages_of}
-use Rattle.map_docs.specs.LangMapRows.{Keys}
-use Rattle.map_docs.specs.LangMapRowsSeen.{AreLesser}
-use Rattle.map_docs.specs.LangMaps.{Labelled}
+use Rattle.catalogue.specs.CatalogueFlat.{under}
+use Rattle.json_docs.specs.FaultChecks.{AllPass}
+use Rattle.map_docs.specs.LabelsChecks.{keys_checks}
+use Rattle.map_docs.specs.MapsLabels.{languages_of}
+use Rattle.map_docs.specs.MembersRows.{Keys}
+use Rattle.map_docs.specs.MembersRowsSeen.{AreLesser}
+use Rattle.map_docs.specs.Maps.{Labelled}
 
 -- after labels that ascend, of lesser messages, the taker took the labels of these languages too,
 -- and all ascend

@@ -3,7 +3,7 @@ ghost use Rattle.std.specs.Prelude.{◌≡◌, [], IfOk, IsTrue};
 ghost use Rattle.std.specs.BTreeMap.{insert_entry};
 ghost use Rattle.std.specs.List.Sorted.{IsStrictlySortedBy};
 ghost use Rattle.std.specs.Map.{keys_of};
-ghost use Rattle.cell_core.specs.Above.{IsAboveAll};
+ghost use Rattle.cell_core.specs.KeyedAbove.{IsAboveAll};
 ghost use Rattle.map_docs.specs.AscendingMap.{entries_of};
 
 use std::alloc::{AllocError, Global};

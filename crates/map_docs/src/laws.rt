@@ -1,5 +1,5 @@
 //! Laws of language-map documents. Each function's contract is one; the functions do nothing.
-ghost use Rattle.map_docs.specs.LangMapLaws.{OneReading, ReadsBack};
+ghost use Rattle.map_docs.specs.MapsLaws.{OneReading, ReadsBack};
 
 /// A document reads as one list of labels and no other.
 pub fn one_reading()

@@ -33,7 +33,7 @@ impl Model for LangMaps {
     ghost use Rattle.std.specs.Prelude.{List};
     ghost use Rattle.cell_core.specs.Keyed.{IsMap};
     ghost use Rattle.cell_core.specs.Entry.{key_cmp};
-    ghost use Rattle.map_docs.specs.LangMaps.{Labelled, labels_of};
+    ghost use Rattle.map_docs.specs.Maps.{Labelled, labels_of};
 
     ghost Value = { List Labelled };
 
@@ -44,7 +44,7 @@ impl Model for LangMaps {
 
 impl LangMaps {
     ghost use Rattle.catalogue.specs.Entries.{IsAboveAll};
-    ghost use Rattle.map_docs.specs.LangMaps.{labels_of};
+    ghost use Rattle.map_docs.specs.Maps.{labels_of};
 
     /// No label yet. The list grows by this allocator; it takes no memory now.
     pub fn new(alloc: Global) -> LangMaps

@@ -1,12 +1,12 @@
 //! Language-map documents read.
 ghost use Rattle.std.specs.Prelude.{◌≡◌, [], List, IsUtf8, MatchOption, MatchResult, true};
 ghost use Rattle.json.specs.Lex.{tokens};
-ghost use Rattle.json_docs.specs.Checks.{OrMemory};
+ghost use Rattle.json_docs.specs.FaultChecks.{OrMemory};
 ghost use Rattle.json_docs.specs.Numbers.{are_in_range};
 ghost use Rattle.json_docs.specs.declared.fault.DocCause.TheVariants.{NoMemory};
 ghost use Rattle.row_docs.specs.Reading.{IsOfDocument, no_memory};
-ghost use Rattle.map_docs.specs.LangMapLabels.{AreLangMaps, RefusesLangMaps};
-ghost use Rattle.map_docs.specs.LangMaps.{Labelled};
+ghost use Rattle.map_docs.specs.MapsLabels.{AreLangMaps, RefusesLangMaps};
+ghost use Rattle.map_docs.specs.Maps.{Labelled};
 
 use crate::labels::labels_of;
 use crate::maps::LangMaps;

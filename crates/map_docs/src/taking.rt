@@ -1,7 +1,7 @@
 //! What takes the labels of a document one after another, as they are read.
 ghost use Rattle.std.specs.Prelude.{◌≡◌, ◌++◌, ◌∷◌, [], List, IfSome};
 ghost use Rattle.catalogue.specs.Entries.{IsAboveAll};
-ghost use Rattle.map_docs.specs.LangMaps.{Labelled};
+ghost use Rattle.map_docs.specs.Maps.{Labelled};
 
 use crate::maps::LangMaps;
 use cell_core::{Key, Label, MessageId};

@@ -7,12 +7,12 @@ ghost use Rattle.cell_core.specs.Keyed.{IsMap};
 ghost use Rattle.cell_core.specs.MessageId.{IsMessageId};
 ghost use Rattle.cell_core.specs.Entry.{key_cmp};
 ghost use Rattle.lang_core.specs.Lang.{IsLang};
-ghost use Rattle.row_docs.specs.Texts.{Adds, text, value_tokens};
-ghost use Rattle.map_docs.specs.LangMapLabels.{AreLangMaps};
-ghost use Rattle.map_docs.specs.LangMapTexts.{IsTextOf};
-ghost use Rattle.map_docs.specs.LangMaps.{Labelled};
-ghost use Rattle.map_docs.specs.LangMapsValue.{language_value, langmaps_value};
-ghost use Rattle.map_docs.specs.LangMapsWritten.{IsWriting, labels_tokens, opening_tokens};
+ghost use Rattle.row_docs.specs.WritingTexts.{Adds, text, value_tokens};
+ghost use Rattle.map_docs.specs.MapsLabels.{AreLangMaps};
+ghost use Rattle.map_docs.specs.WritingTexts.{IsTextOf};
+ghost use Rattle.map_docs.specs.Maps.{Labelled};
+ghost use Rattle.map_docs.specs.MapsValue.{language_value, langmaps_value};
+ghost use Rattle.map_docs.specs.WritingMaps.{IsWriting, labels_tokens, opening_tokens};
 
 use crate::maps::LangMaps;
 use cell_core::{Label, MessageId};

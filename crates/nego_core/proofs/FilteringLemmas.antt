@@ -4,7 +4,7 @@ use Rattle.std.specs.Prelude.{map, IsPermutation}
 use Rattle.std.specs.declared.cmp.Ordering.TheVariants.{Equal}
 use Rattle.std.specs.Cmp.{IsTotalOrder}
 use Rattle.std.proofs.lemmas.Cmp.{nat_cmp_total, nat_list_cmp_total, on_total, then_total}
-use Rattle.list_core.proofs.Unique.{one_order, then_tied, nat_tied, text_tied}
+use Rattle.list_core.proofs.IndexUnique.{one_order, then_tied, nat_tied, text_tied}
 use Rattle.list_core.specs.Item.{Item}
 use Rattle.nego_core.specs.Filtering.{IsFiltered, IsKey, AreKeys, Key, key_cmp, pick_of}
 use Rattle.list_core.specs.declared.scheme.Scheme.{Scheme}

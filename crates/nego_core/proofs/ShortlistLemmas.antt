@@ -8,8 +8,8 @@ use Rattle.std.proofs.lemmas.List.{drop_all}
 use Rattle.std.proofs.lemmas.List.Elements.{All-nil}
 use Rattle.lang_core.specs.Text.{pieces}
 use Rattle.list_core.proofs.Basics.{element_at}
-use Rattle.nego_core.proofs.LookupCandidatesLemmas.{first_here}
-use Rattle.nego_core.proofs.LookupCandidatesLemmas.{first_later}
+use Rattle.nego_core.proofs.ChoosingCandidatesLemmas.{first_here}
+use Rattle.nego_core.proofs.ChoosingCandidatesLemmas.{first_later}
 use Rattle.nego_core.specs.Filtering.{texts_of}
 use Rattle.list_core.specs.Item.{Item}
 use Rattle.nego_core.specs.LangSet.{is_among}

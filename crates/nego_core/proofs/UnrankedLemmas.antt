@@ -21,7 +21,7 @@ use Rattle.std.proofs.lemmas.List.Elements.{Contains-push}
 use Rattle.std.proofs.lemmas.Slice.Eq.{bytes_eq-Decides}
 use Rattle.list_core.proofs.Basics.{contains_cases, contains_first, contains_later, false_true}
 use Rattle.nego_core.proofs.FilteringKeys.{take_next}
-use Rattle.list_core.proofs.Unique.{text_tied}
+use Rattle.list_core.proofs.IndexUnique.{text_tied}
 use Rattle.nego_core.specs.LangSet.{is_among}
 use Rattle.nego_core.specs.Unranked.{AreSpelled, Spells, TakesFrom, texts_left}
 

@@ -20,18 +20,19 @@ use Rattle.lang_core.specs.Text.{pieces, joined}
 use Rattle.lang_core.specs.Lang.{tag_of}
 use Rattle.lang_core.specs.Grammar.{is_star}
 use Rattle.lang_core.specs.Matching.{Extended, greedy, is_basic_match}
-use Rattle.lang_core.proofs.BasicLaw.{basic_of_test, test_of_basic}
-use Rattle.lang_core.proofs.Embedding.{embeds_of_greedy, greedy_of_embeds}
+use Rattle.lang_core.proofs.MatchingBasic.{basic_of_test, test_of_basic}
+use Rattle.lang_core.proofs.MatchingEmbedding.{embeds_of_greedy, greedy_of_embeds}
 use Rattle.list_core.proofs.Basics.{contains_cases, contains_first, contains_from_map, element_at}
 use Rattle.list_core.proofs.Basics.{false_true, same_default}
-use Rattle.nego_core.proofs.FoundCandidates.{IsTriedOf, each_tried}
+use Rattle.nego_core.proofs.ChoosingFoundCandidates.{IsTriedOf, each_tried}
 use Rattle.nego_core.proofs.LangSetLemmas.{among_contains, contains_among}
-use Rattle.nego_core.proofs.LookupCandidatesLemmas.{first_append, first_front, first_here}
-use Rattle.nego_core.proofs.LookupCandidatesLemmas.{first_later, one_first, ordered_items}
+use Rattle.nego_core.proofs.ChoosingCandidatesLemmas.{first_append, first_front, first_here}
+use Rattle.nego_core.proofs.ChoosingCandidatesLemmas.{first_later, one_first, ordered_items}
 use Rattle.list_core.proofs.LookupOrderLemmas.{one_order_of}
-use Rattle.list_core.proofs.Prefixes.{joined-pieces}
-use Rattle.nego_core.proofs.Rising.{all_above, not_both, one_rising, rising_from, rising_has}
-use Rattle.nego_core.proofs.Rising.{rising_is, rising_of, rising_tail}
+use Rattle.list_core.proofs.FirstTriedPrefixes.{joined-pieces}
+use Rattle.nego_core.proofs.WideningAscending.{all_above, not_both, one_rising, rising_from}
+use Rattle.nego_core.proofs.WideningAscending.{rising_has}
+use Rattle.nego_core.proofs.WideningAscending.{rising_is, rising_of, rising_tail}
 use Rattle.list_core.specs.Item.{Item}
 use Rattle.list_core.specs.Deciding.{Matches, NamedRefuse}
 use Rattle.nego_core.specs.LangSet.{is_among}

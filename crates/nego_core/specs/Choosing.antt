@@ -2,7 +2,7 @@ use Rattle.std.specs.Prelude.{ℕ, ◌≡◌, Bool, IsTrue, List, [], ◌∷◌,
 use Rattle.std.specs.List.{flat_map, slice_get}
 use Rattle.lang_core.specs.Text.{pieces, joined}
 use Rattle.lang_core.specs.Matching.{as_basic}
-use Rattle.lang_core.specs.Candidates.{candidates}
+use Rattle.lang_core.specs.TruncationsCandidates.{candidates}
 use Rattle.list_core.specs.Item.{Item}
 use Rattle.list_core.specs.Deciding.{NamedRefuse}
 use Rattle.list_core.specs.LookupOrder.{IsOrder}

@@ -1,9 +1,9 @@
-pub mod LangSet
 pub mod Choosing
+pub mod ChoosingUnweighted
+pub mod Filtering
+pub mod LangSet
 pub mod LookupPlaces
+pub mod Shortlist
+pub mod Unranked
 pub mod WidenedChoice
 pub mod Widening
-pub mod Filtering
-pub mod Unweighted
-pub mod Unranked
-pub mod Shortlist

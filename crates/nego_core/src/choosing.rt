@@ -6,7 +6,7 @@ ghost use Rattle.nego_core.specs.Choosing.{IsOpenDefault, HasOpenDefault, IsChos
 ghost use Rattle.list_core.specs.declared.scheme.Scheme.TheVariants as scheme;
 ghost use Rattle.lang_core.specs.Text.{pieces};
 ghost use Rattle.lang_core.specs.Matching.{as_basic};
-ghost use Rattle.lang_core.specs.Candidates.{candidates};
+ghost use Rattle.lang_core.specs.TruncationsCandidates.{candidates};
 ghost use Rattle.list_core.specs.Deciding.{NamedRefuse};
 ghost use Rattle.nego_core.specs.Choosing.{IsOpen, MatchFirstOf, IsLookedUp, candidates_at};
 

@@ -14,7 +14,7 @@ ghost use Rattle.nego_core.specs.Widening.{IsFoundWidened, IsLookedUpWidened};
 ghost use Rattle.list_core.specs.Deciding.{MatchesLang};
 ghost use Rattle.list_core.specs.Deciding.{NamedRefuse};
 ghost use Rattle.list_core.specs.Deciding.{IsRefusedLang};
-ghost use Rattle.nego_core.specs.Unweighted.{AllUnweighted, IsMatchedAt, IsFirstHeld};
+ghost use Rattle.nego_core.specs.ChoosingUnweighted.{AllUnweighted, IsMatchedAt, IsFirstHeld};
 ghost use Rattle.list_core.specs.Item.{AllPositive};
 ghost use Rattle.nego_core.specs.declared.lookup_places.Found.{Found};
 ghost use Rattle.nego_core.specs.declared.filtering.Pick.{Pick};

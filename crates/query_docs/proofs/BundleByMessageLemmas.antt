@@ -18,20 +18,20 @@ use Rattle.catalogue.specs.Live.{Labelled as Labels, live}
 use Rattle.catalogue.specs.declared.reply.Reply.{Reply}
 use Rattle.catalogue.specs.declared.reply.Reply.TheVariants.{Default, Matched}
 use Rattle.catalogue.proofs.Basics.{append_nil}
-use Rattle.catalogue.proofs.BehindLemmas.{IsMap-behind}
-use Rattle.catalogue.proofs.NestedCataloguesLemmas.{text_exact}
-use Rattle.map_docs.specs.LangMaps.{Labelled}
+use Rattle.catalogue.proofs.CatalogueAboveLemmas.{IsMap-behind}
+use Rattle.catalogue.proofs.CatalogueNestedLemmas.{text_exact}
+use Rattle.map_docs.specs.Maps.{Labelled}
 use Rattle.query_docs.specs.BundleByMessage.{HasBundled, default_of}
-use Rattle.query_docs.specs.Bundled.{IsAnswer, IsBundleBy}
+use Rattle.query_docs.specs.Bundling.{IsAnswer, IsBundleBy}
 use Rattle.query_docs.specs.ByMessage.{IsNextMessage, cell_of, cells_of}
 use Rattle.query_docs.specs.declared.by_message.MessageCell.{MessageCell}
 use Rattle.query_docs.specs.Draft.{HasWritten}
-use Rattle.query_docs.specs.Exported.{live_labels}
-use Rattle.query_docs.specs.LooksUp.{answered, answered_of}
+use Rattle.query_docs.specs.Exporting.{live_labels}
+use Rattle.query_docs.specs.LiveCellsLookup.{answered, answered_of}
 use Rattle.query_docs.specs.declared.bundle_by_message.Bundle.{Bundle}
 use Rattle.query_docs.specs.declared.draft.Draft.{Draft}
 use Rattle.cell_core.proofs.Basics.{tied_order as tied}
-use Rattle.query_docs.proofs.BundledLemmas.{answer_of, answered_here, bundle_live}
+use Rattle.query_docs.proofs.BundlingLemmas.{answer_of, answered_here, bundle_live}
 use Rattle.query_docs.proofs.ByMessageLemmas.{live_before, live_own}
 use Rattle.query_docs.proofs.ChosenLemmas.{ids_live}
 

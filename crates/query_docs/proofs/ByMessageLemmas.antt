@@ -18,8 +18,8 @@ use Rattle.cell_core.specs.Entry.{EntryKey, key_cmp, text_cmp}
 use Rattle.catalogue.specs.Entries.{Entries, Entry, IsAboveAll}
 use Rattle.catalogue.specs.Live.{live, live_of}
 use Rattle.catalogue.proofs.Basics.{apart_first, append_nil}
-use Rattle.catalogue.proofs.FlatLemmas.{find-append_lists, or_none}
-use Rattle.catalogue.proofs.NestedCataloguesLemmas.{text_exact}
+use Rattle.catalogue.proofs.CatalogueFlatLemmas.{find-append_lists, or_none}
+use Rattle.catalogue.proofs.CatalogueNestedLemmas.{text_exact}
 use Rattle.site_docs.specs.Sink.{IsLabelRef}
 use Rattle.query_docs.specs.ByMessage.{AreLabelRefs, HasGiven, HasSeen, IsNextMessage, cell_of}
 use Rattle.query_docs.specs.ByMessage.{cells_by, cells_of, entries_in}

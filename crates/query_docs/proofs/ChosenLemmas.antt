@@ -14,17 +14,17 @@ use Rattle.std.specs.declared.cmp.Ordering.TheVariants.{Equal, Greater, Less}
 use Rattle.cell_core.specs.declared.cell.Cell.{Cell}
 use Rattle.cell_core.specs.Entry.{key_cmp, text_cmp}
 use Rattle.catalogue.specs.Entries.{Entries, Entry}
-use Rattle.map_docs.specs.LangMaps.{Labelled}
+use Rattle.map_docs.specs.Maps.{Labelled}
 use Rattle.query_docs.specs.ByMessage.{IsNextMessage, cell_of, cells_of}
 use Rattle.query_docs.specs.Chosen.{HasChosen, chosen_labels, is_chosen}
 use Rattle.query_docs.specs.Draft.{HasWritten}
-use Rattle.query_docs.specs.Exported.{live_labels}
+use Rattle.query_docs.specs.Exporting.{live_labels}
 use Rattle.query_docs.specs.Outdated.{is_before, labelled_at, live_time}
 use Rattle.query_docs.specs.declared.by_message.MessageCell.{MessageCell}
 use Rattle.query_docs.specs.declared.chosen.ChosenLabels.{ChosenLabels}
 use Rattle.query_docs.specs.declared.messages.Messages.{Messages}
 use Rattle.query_docs.specs.declared.messages.Messages.TheVariants as messages
-use Rattle.map_docs.proofs.LangMapLabelsLemmas.{same_id as same_keys}
+use Rattle.map_docs.proofs.MapsLabelsLemmas.{same_id as same_keys}
 use Rattle.query_docs.proofs.ByMessageLemmas.{found_before, found_own}
 
 -- ---- lists of labels

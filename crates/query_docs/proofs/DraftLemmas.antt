@@ -5,13 +5,13 @@ use Rattle.std.proofs.lemmas.List.Elements.{filter_map-append}
 use Rattle.cell_core.specs.MessageId.{IsMessageId}
 use Rattle.catalogue.specs.Entries.{Entries, Entry}
 use Rattle.catalogue.proofs.Basics.{append_nil}
-use Rattle.row_docs.specs.Texts.{Adds}
-use Rattle.map_docs.specs.LangMapLaws.{IsWritable}
-use Rattle.map_docs.specs.LangMaps.{Labelled}
-use Rattle.map_docs.specs.LangMapsWritten.{IsWriting, label_tokens, opening_tokens}
+use Rattle.row_docs.specs.WritingTexts.{Adds}
+use Rattle.map_docs.specs.MapsLaws.{IsWritable}
+use Rattle.map_docs.specs.Maps.{Labelled}
+use Rattle.map_docs.specs.WritingMaps.{IsWriting, label_tokens, opening_tokens}
 use Rattle.map_docs.proofs.WritingLemmas.{writing_next}
 use Rattle.query_docs.specs.Draft.{HasWritten, labelled_by}
-use Rattle.query_docs.specs.Exported.{live_labels}
+use Rattle.query_docs.specs.Exporting.{live_labels}
 use Rattle.query_docs.specs.declared.draft.Draft.{Draft}
 
 -- One label more is written, after its message was opened.

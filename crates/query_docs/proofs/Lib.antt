@@ -1,11 +1,11 @@
 pub mod BundleByMessageLemmas
-pub mod BundledLemmas
+pub mod BundlingLemmas
 pub mod ByMessageLemmas
-pub mod ChangedLemmas
+pub mod ChangesLemmas
 pub mod ChosenLemmas
-pub mod CountedLemmas
 pub mod DraftLemmas
+pub mod ExportingLemmas
 pub mod LinesLemmas
 pub mod LiveCellsLemmas
-pub mod LiveLemmas
 pub mod OneMessageLemmas
+pub mod StatusCountsLemmas

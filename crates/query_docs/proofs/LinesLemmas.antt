@@ -9,7 +9,7 @@ use Rattle.json.specs.Written.{Written}
 use Rattle.serde_json.specs.Data.{Data}
 use Rattle.serde_json.specs.Written.{compact_text}
 use Rattle.serde_json.proofs.Texts.{print-outline}
-use Rattle.row_docs.specs.Texts.{Adds, value_tokens}
+use Rattle.row_docs.specs.WritingTexts.{Adds, value_tokens}
 
 -- a value written after some bytes
 pub printed_after : (a b : Written) (start : List ℕ) (d : Data) → a.before ≡ start → a.tokens ≡ []

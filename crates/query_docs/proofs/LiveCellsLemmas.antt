@@ -8,19 +8,19 @@ use Rattle.std.proofs.lemmas.List.Elements.{filter_map-append}
 use Rattle.std.specs.List.{cons_option}
 use Rattle.std.specs.FinMap.Entries.{find}
 use Rattle.std.specs.Ordering.{is_eq}
-use Rattle.cell_core.specs.Found.{with_key}
+use Rattle.cell_core.specs.KeyedFound.{with_key}
 use Rattle.cell_core.specs.Entry.{text_cmp}
 use Rattle.catalogue.specs.Entries.{Entry}
 use Rattle.catalogue.specs.Live.{Labelled, is_live, languages, live, live_of}
 use Rattle.catalogue.specs.declared.reply.Reply.{Reply}
-use Rattle.catalogue.proofs.NestedCataloguesLemmas.{text_exact}
+use Rattle.catalogue.proofs.CatalogueNestedLemmas.{text_exact}
 use Rattle.site_docs.specs.Sink.{texts_of}
 use Rattle.query_docs.specs.ByMessage.{cell_of, cells_of}
 use Rattle.query_docs.specs.Draft.{labelled_by}
 use Rattle.query_docs.specs.LiveCells.{label_of, labels_of}
-use Rattle.query_docs.specs.LooksUp.{answered, answered_of}
+use Rattle.query_docs.specs.LiveCellsLookup.{answered, answered_of}
 use Rattle.query_docs.specs.declared.by_message.MessageCell.{MessageCell}
-use Rattle.json_docs.proofs.ReadableLemmas.{both_true as both}
+use Rattle.json_docs.proofs.ScanningReadableLemmas.{both_true as both}
 use Rattle.cell_core.proofs.Basics.{tied_order as tied}
 use Rattle.query_docs.proofs.ChosenLemmas.{same_text}
 

@@ -10,7 +10,7 @@ use Rattle.nego_core.specs.declared.widening.Widening.TheVariants.{Off}
 use Rattle.cell_core.specs.Entry.{EntryKey, key_cmp, text_cmp}
 use Rattle.catalogue.specs.Entries.{Entries, Entry, IsAboveAll}
 use Rattle.catalogue.specs.Live.{Labelled, live, live_of}
-use Rattle.query_docs.specs.Asks.{Answers}
+use Rattle.query_docs.specs.Asking.{Answers}
 use Rattle.query_docs.specs.OneMessage.{KeepsMessage, is_of}
 use Rattle.query_docs.specs.declared.asking.Ask.{Ask}
 use Rattle.query_docs.specs.declared.asking.Ask.TheVariants.{Filter, Lookup}

@@ -1,8 +1,8 @@
 -- The labels of one reader, looked up message by message.
 use Rattle.std.specs.Prelude.{◌≡◌, ℕ, List, Option, option_map}
 use Rattle.catalogue.specs.Entries.{Entries}
-use Rattle.map_docs.specs.LangMaps.{Labelled}
-use Rattle.query_docs.specs.Bundled.{IsBundleBy}
+use Rattle.map_docs.specs.Maps.{Labelled}
+use Rattle.query_docs.specs.Bundling.{IsBundleBy}
 use Rattle.query_docs.specs.Draft.{HasWritten}
 use Rattle.query_docs.specs.declared.bundle_by_message.Bundle.{Bundle}
 

@@ -3,11 +3,11 @@ use Rattle.std.specs.Prelude.{◌≡◌, ℕ, Bool, List, filter}
 use Rattle.std.specs.Option.{is_none}
 use Rattle.catalogue.specs.Entries.{Entries}
 use Rattle.cata_core.specs.Site.{SiteState}
-use Rattle.site_docs.specs.ReadsAs.{ReadsAsSite}
-use Rattle.map_docs.specs.LangMapTexts.{AreWritten}
-use Rattle.map_docs.specs.LangMaps.{Labelled}
+use Rattle.site_docs.specs.Reading.{ReadsAsSite}
+use Rattle.map_docs.specs.WritingTexts.{AreWritten}
+use Rattle.map_docs.specs.Maps.{Labelled}
 use Rattle.query_docs.specs.Draft.{HasWritten}
-use Rattle.query_docs.specs.Exported.{label_at, live_labels}
+use Rattle.query_docs.specs.Exporting.{label_at, live_labels}
 use Rattle.query_docs.specs.Outdated.{is_outdated}
 use Rattle.query_docs.specs.declared.chosen.ChosenLabels.{ChosenLabels}
 use Rattle.query_docs.specs.declared.messages.Messages.{Messages}

@@ -3,8 +3,8 @@ use Rattle.std.specs.Prelude.{◌++◌, [], ℕ, IfSome, List, Option, option_ma
 use Rattle.std.specs.List.{cons_option}
 use Rattle.cell_core.specs.MessageId.{IsMessageId}
 use Rattle.cell_core.specs.Entry.{EntryKey}
-use Rattle.map_docs.specs.LangMaps.{Labelled}
-use Rattle.map_docs.specs.LangMapsWritten.{IsWriting}
+use Rattle.map_docs.specs.Maps.{Labelled}
+use Rattle.map_docs.specs.WritingMaps.{IsWriting}
 use Rattle.query_docs.specs.declared.draft.Draft.{Draft}
 
 -- these labels are written: with any that are left it comes to both; the message that is open has

@@ -9,7 +9,7 @@ use Rattle.cata_core.specs.declared.answer.Answer.TheVariants.{Filter, Lookup, C
 use Rattle.catalogue.specs.declared.reply.Reply.{Reply}
 use Rattle.catalogue.specs.declared.reply.Reply.TheVariants.{Matched, Default, Nothing}
 use Rattle.row_docs.specs.Entries.{row_of}
-use Rattle.row_docs.specs.Values.{cell_value, texts_value}
+use Rattle.row_docs.specs.EntriesValues.{cell_value, texts_value}
 
 -- the words, and then a line feed
 abbrev pub line : List ℕ → List ℕ

@@ -3,10 +3,10 @@ use Rattle.std.specs.Prelude.{ℕ, Bool, List, filter}
 use Rattle.std.specs.Option.{is_none}
 use Rattle.catalogue.specs.Entries.{Entries}
 use Rattle.cata_core.specs.Site.{SiteState}
-use Rattle.site_docs.specs.ReadsAs.{ReadsAsSite}
-use Rattle.map_docs.specs.LangMapTexts.{AreWritten}
-use Rattle.map_docs.specs.LangMaps.{Labelled}
-use Rattle.query_docs.specs.Exported.{label_at, live_labels}
+use Rattle.site_docs.specs.Reading.{ReadsAsSite}
+use Rattle.map_docs.specs.WritingTexts.{AreWritten}
+use Rattle.map_docs.specs.Maps.{Labelled}
+use Rattle.query_docs.specs.Exporting.{label_at, live_labels}
 
 -- the live labels whose messages have none of just this language
 abbrev pub missing_labels : List ℕ → Entries → List Labelled

@@ -4,9 +4,9 @@ use Rattle.std.specs.Ordering.{is_eq}
 use Rattle.cell_core.specs.Entry.{text_cmp}
 use Rattle.catalogue.specs.Entries.{Entries}
 use Rattle.catalogue.specs.Live.{live}
-use Rattle.catalogue.specs.Parts.{part_of}
+use Rattle.catalogue.specs.CatalogueParts.{part_of}
 use Rattle.cata_core.specs.Site.{SiteState}
-use Rattle.site_docs.specs.ReadsAs.{ReadsAsSite}
+use Rattle.site_docs.specs.Reading.{ReadsAsSite}
 use Rattle.query_docs.specs.declared.one_message.OneMessage.{OneMessage}
 
 -- whether an id is this one

@@ -7,10 +7,10 @@ use Rattle.cell_core.specs.declared.cell.Cell.{Cell}
 use Rattle.cell_core.specs.Entry.{EntryKey, key_cmp}
 use Rattle.catalogue.specs.Entries.{Entries}
 use Rattle.cata_core.specs.Site.{SiteState}
-use Rattle.site_docs.specs.ReadsAs.{ReadsAsSite}
-use Rattle.map_docs.specs.LangMapTexts.{AreWritten}
-use Rattle.map_docs.specs.LangMaps.{Labelled}
-use Rattle.query_docs.specs.Exported.{live_labels}
+use Rattle.site_docs.specs.Reading.{ReadsAsSite}
+use Rattle.map_docs.specs.WritingTexts.{AreWritten}
+use Rattle.map_docs.specs.Maps.{Labelled}
+use Rattle.query_docs.specs.Exporting.{live_labels}
 
 -- the time of a cell that has a label
 abbrev pub labelled_at : Option Cell → Option ℕ

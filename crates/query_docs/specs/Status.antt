@@ -3,9 +3,9 @@ use Rattle.std.specs.Prelude.{◌≡◌, ◌∷◌, ◌++◌, ℕ, Bool, List, N
 use Rattle.std.specs.Prelude.{decimal, is_some, length}
 use Rattle.cell_core.specs.declared.stamp.Stamp.{Stamp}
 use Rattle.catalogue.specs.Entries.{Entry}
-use Rattle.catalogue.specs.Latest.{latest_of}
+use Rattle.catalogue.specs.CatalogueLatest.{latest_of}
 use Rattle.cata_core.specs.Site.{SiteState}
-use Rattle.site_docs.specs.ReadsAs.{ReadsAsSite}
+use Rattle.site_docs.specs.Reading.{ReadsAsSite}
 use Rattle.query_docs.specs.Lines.{line}
 
 -- `TIME NAME COUNT`, or `none`

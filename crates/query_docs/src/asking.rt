@@ -1,10 +1,10 @@
 //! Questions to a document of a site.
 ghost use Rattle.std.specs.Prelude.{◌≡◌, IfOk, MatchResult};
 ghost use Rattle.catalogue.specs.Reply.{reply_of};
-ghost use Rattle.json_docs.specs.Checks.{OrMemory};
+ghost use Rattle.json_docs.specs.FaultChecks.{OrMemory};
 ghost use Rattle.row_docs.specs.Reading.{IsOfDocument, no_memory};
-ghost use Rattle.site_docs.specs.ReadsAs.{RefusesSite};
-ghost use Rattle.query_docs.specs.Asks.{Answers, IsAsked, is_found};
+ghost use Rattle.site_docs.specs.Reading.{RefusesSite};
+ghost use Rattle.query_docs.specs.Asking.{Answers, IsAsked, is_found};
 
 use crate::lines::{filter_lines, reply_line};
 use crate::one_message::read_message;

@@ -1,10 +1,10 @@
 //! The labels of one reader, looked up message by message as a document is read.
 ghost use Rattle.std.specs.Prelude.{MatchResult, option_map};
-ghost use Rattle.json_docs.specs.Checks.{OrMemory};
+ghost use Rattle.json_docs.specs.FaultChecks.{OrMemory};
 ghost use Rattle.row_docs.specs.Reading.{IsOfDocument, no_memory};
-ghost use Rattle.site_docs.specs.ReadsAs.{RefusesSite};
+ghost use Rattle.site_docs.specs.Reading.{RefusesSite};
 ghost use Rattle.query_docs.specs.BundleByMessage.{HasBundled};
-ghost use Rattle.query_docs.specs.Bundled.{IsBundledBy};
+ghost use Rattle.query_docs.specs.Bundling.{IsBundledBy};
 
 use crate::by_message::{ByMessage, MessageCell, MessageSink};
 use crate::draft::Draft;

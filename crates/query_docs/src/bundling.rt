@@ -1,14 +1,14 @@
 //! The labels of one reader: what a lookup answers for each message.
 ghost use Rattle.std.specs.Prelude.{◌≡◌, IfOk, List, MatchResult, option_map};
-ghost use Rattle.catalogue.specs.Lent.{lent_pair};
+ghost use Rattle.catalogue.specs.ReplyBorrowed.{lent_pair};
 ghost use Rattle.catalogue.specs.Reply.{reply_of};
-ghost use Rattle.json_docs.specs.Checks.{OrMemory};
+ghost use Rattle.json_docs.specs.FaultChecks.{OrMemory};
 ghost use Rattle.row_docs.specs.Reading.{IsOfDocument, no_memory};
-ghost use Rattle.site_docs.specs.ReadsAs.{RefusesSite};
-ghost use Rattle.map_docs.specs.LangMapTexts.{AreWritten};
-ghost use Rattle.map_docs.specs.LangMaps.{Labelled};
-ghost use Rattle.query_docs.specs.Bundled.{IsBundle, IsBundleBy, IsBundled, IsBundledBy};
-ghost use Rattle.query_docs.specs.LooksUp.{answered};
+ghost use Rattle.site_docs.specs.Reading.{RefusesSite};
+ghost use Rattle.map_docs.specs.WritingTexts.{AreWritten};
+ghost use Rattle.map_docs.specs.Maps.{Labelled};
+ghost use Rattle.query_docs.specs.Bundling.{IsBundle, IsBundleBy, IsBundled, IsBundledBy};
+ghost use Rattle.query_docs.specs.LiveCellsLookup.{answered};
 
 use crate::bundle_by_message::bundle_by_message;
 use crate::draft::Draft;

@@ -4,11 +4,11 @@ ghost use Rattle.std.specs.Option.{option_copied};
 ghost use Rattle.cell_core.specs.Label.{texts_of};
 ghost use Rattle.catalogue.specs.Changes.{AreChanges, Changed};
 ghost use Rattle.catalogue.specs.ChangesLeft.{change_seen};
-ghost use Rattle.json_docs.specs.Checks.{OrMemory};
+ghost use Rattle.json_docs.specs.FaultChecks.{OrMemory};
 ghost use Rattle.row_docs.specs.Reading.{no_memory};
-ghost use Rattle.row_docs.specs.Texts.{Adds, value_tokens};
-ghost use Rattle.query_docs.specs.Changed.{IsChanged, RefusesChanged, change_value, changes_lines};
-ghost use Rattle.query_docs.specs.Changed.{has_change, side_value};
+ghost use Rattle.row_docs.specs.WritingTexts.{Adds, value_tokens};
+ghost use Rattle.query_docs.specs.Changes.{IsChanged, RefusesChanged, change_value, changes_lines};
+ghost use Rattle.query_docs.specs.Changes.{has_change, side_value};
 
 use crate::lines::Lines;
 use cata_core::{Catalogue, Change};

@@ -4,13 +4,13 @@ ghost use Rattle.cell_core.specs.Keyed.{IsMap};
 ghost use Rattle.cell_core.specs.Label.{IsLabel};
 ghost use Rattle.cell_core.specs.MessageId.{IsMessageId};
 ghost use Rattle.cell_core.specs.Entry.{key_cmp};
-ghost use Rattle.row_docs.specs.Texts.{Adds};
-ghost use Rattle.map_docs.specs.LangMapTexts.{AreWritten};
-ghost use Rattle.map_docs.specs.LangMaps.{Labelled};
-ghost use Rattle.map_docs.specs.LangMapsWritten.{opening_tokens};
+ghost use Rattle.row_docs.specs.WritingTexts.{Adds};
+ghost use Rattle.map_docs.specs.WritingTexts.{AreWritten};
+ghost use Rattle.map_docs.specs.Maps.{Labelled};
+ghost use Rattle.map_docs.specs.WritingMaps.{opening_tokens};
 ghost use Rattle.site_docs.specs.Sink.{IsLabelRef, texts_of};
 ghost use Rattle.query_docs.specs.Draft.{HasWritten, labelled_by};
-ghost use Rattle.query_docs.specs.Exported.{live_labels};
+ghost use Rattle.query_docs.specs.Exporting.{live_labels};
 
 use cell_core::{Key, Label, MessageId};
 use json::Writer;

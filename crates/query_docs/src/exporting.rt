@@ -1,11 +1,11 @@
 //! The live labels of a site, as language maps.
 ghost use Rattle.std.specs.Prelude.{◌≡◌, IfOk, IfSome, MatchResult};
 ghost use Rattle.std.specs.Option.{option_copied};
-ghost use Rattle.json_docs.specs.Checks.{OrMemory};
+ghost use Rattle.json_docs.specs.FaultChecks.{OrMemory};
 ghost use Rattle.row_docs.specs.Reading.{IsOfDocument, no_memory};
-ghost use Rattle.site_docs.specs.ReadsAs.{RefusesSite};
-ghost use Rattle.map_docs.specs.LangMapTexts.{IsTextOf};
-ghost use Rattle.query_docs.specs.Exported.{IsExported, label_at, live_labels};
+ghost use Rattle.site_docs.specs.Reading.{RefusesSite};
+ghost use Rattle.map_docs.specs.WritingTexts.{IsTextOf};
+ghost use Rattle.query_docs.specs.Exporting.{IsExported, label_at, live_labels};
 
 use crate::draft::Draft;
 use cata_core::Catalogue;

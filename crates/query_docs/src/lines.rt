@@ -3,8 +3,8 @@ ghost use Rattle.std.specs.Prelude.{◌≡◌, ◌++◌, ◌∷◌, [], length, 
 ghost use Rattle.catalogue.specs.Asking.{Weighed};
 ghost use Rattle.catalogue.specs.ChangesLeft.{change_seen};
 ghost use Rattle.catalogue.specs.Reply.{reply_of};
-ghost use Rattle.catalogue.specs.LentEntries.{lent_weighed};
-ghost use Rattle.query_docs.specs.Changed.{change_line};
+ghost use Rattle.catalogue.specs.EntriesBorrowed.{lent_weighed};
+ghost use Rattle.query_docs.specs.Changes.{change_line};
 ghost use Rattle.query_docs.specs.Lines.{cell_line, cells_lines, filter_lines, found_line};
 ghost use Rattle.query_docs.specs.Lines.{label_text, lines, lines_of, reply_line, weighed_line};
 

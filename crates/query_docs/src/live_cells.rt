@@ -3,7 +3,7 @@ ghost use Rattle.std.specs.Prelude.{◌≡◌, ◌++◌, ◌∷◌, ◌&&◌, []
 ghost use Rattle.std.specs.Prelude.{is_some, option_map};
 ghost use Rattle.std.specs.Ordering.{is_eq};
 ghost use Rattle.std.specs.FinMap.Entries.{find};
-ghost use Rattle.cell_core.specs.Found.{with_key};
+ghost use Rattle.cell_core.specs.KeyedFound.{with_key};
 ghost use Rattle.nego_core.specs.WidenedChoice.{MatchEarliest};
 ghost use Rattle.catalogue.specs.Asking.{IsChosenIn, IsLookedUpIn};
 ghost use Rattle.cell_core.specs.Entry.{text_cmp};
@@ -12,7 +12,7 @@ ghost use Rattle.catalogue.specs.declared.reply.Reply.{Reply};
 ghost use Rattle.site_docs.specs.Sink.{IsLabelRef, texts_of};
 ghost use Rattle.query_docs.specs.ByMessage.{AreLabelRefs};
 ghost use Rattle.query_docs.specs.LiveCells.{found_in, labels_of};
-ghost use Rattle.query_docs.specs.LooksUp.{answered};
+ghost use Rattle.query_docs.specs.LiveCellsLookup.{answered};
 
 use crate::by_message::MessageCell;
 use lang_core::Lang;

@@ -1,8 +1,8 @@
 //! A site that is read for one message.
 ghost use Rattle.std.specs.Prelude.{IfSome, MatchResult};
-ghost use Rattle.json_docs.specs.Checks.{OrMemory};
+ghost use Rattle.json_docs.specs.FaultChecks.{OrMemory};
 ghost use Rattle.row_docs.specs.Reading.{IsOfDocument, no_memory};
-ghost use Rattle.site_docs.specs.ReadsAs.{RefusesSite};
+ghost use Rattle.site_docs.specs.Reading.{RefusesSite};
 ghost use Rattle.query_docs.specs.OneMessage.{IsReadFor, KeepsMessage};
 
 use cata_core::{Catalogue, Site};

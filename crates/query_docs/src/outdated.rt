@@ -1,9 +1,9 @@
 //! What a translator has to look at again.
 ghost use Rattle.std.specs.Prelude.{◌≡◌, IfOk, MatchResult};
-ghost use Rattle.json_docs.specs.Checks.{OrMemory};
+ghost use Rattle.json_docs.specs.FaultChecks.{OrMemory};
 ghost use Rattle.row_docs.specs.Reading.{IsOfDocument, no_memory};
-ghost use Rattle.site_docs.specs.ReadsAs.{RefusesSite};
-ghost use Rattle.map_docs.specs.LangMapTexts.{AreWritten};
+ghost use Rattle.site_docs.specs.Reading.{RefusesSite};
+ghost use Rattle.map_docs.specs.WritingTexts.{AreWritten};
 ghost use Rattle.query_docs.specs.Outdated.{IsOutdated, outdated_labels};
 
 use crate::chosen::{chosen_document, write_chosen};

@@ -3,11 +3,11 @@ ghost use Rattle.std.specs.Prelude.{◌≡◌, ◌+◌, [], Some, cond, is_some,
 ghost use Rattle.std.specs.Prelude.{MatchResult};
 ghost use Rattle.cell_core.specs.Cell.{joined_stamps};
 ghost use Rattle.cell_core.specs.Keyed.{joined_if_both};
-ghost use Rattle.json_docs.specs.Checks.{OrMemory};
+ghost use Rattle.json_docs.specs.FaultChecks.{OrMemory};
 ghost use Rattle.row_docs.specs.Reading.{IsOfDocument, no_memory};
-ghost use Rattle.site_docs.specs.ReadsAs.{RefusesSite};
+ghost use Rattle.site_docs.specs.Reading.{RefusesSite};
 ghost use Rattle.site_docs.specs.Sink.{texts_of};
-ghost use Rattle.query_docs.specs.Counted.{AreCounts};
+ghost use Rattle.query_docs.specs.StatusCounts.{AreCounts};
 ghost use Rattle.query_docs.specs.Status.{IsStatus, counted_line, status_line};
 
 use cata_core::Site;

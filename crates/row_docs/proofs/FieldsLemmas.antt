@@ -14,7 +14,7 @@ use Rattle.cell_core.specs.Fault.{RefusesLabel}
 use Rattle.cell_core.specs.declared.fault.CellFault.{CellFault}
 use Rattle.cell_core.specs.declared.fault.CellFault.TheVariants.{IdRefused, TextTooLong, LabelCount}
 use Rattle.cell_core.specs.declared.fault.CellFault.TheVariants.{ClockSpent, NoMemory, SiteName}
-use Rattle.json_docs.specs.Reads.{seen}
+use Rattle.json_docs.specs.ScanningReads.{seen}
 use Rattle.json_docs.specs.Parts.{texts_in}
 use Rattle.json_docs.specs.declared.fault.DocCause.TheVariants.{NoMemory as no_memory}
 use Rattle.row_docs.specs.Fields.{IsLabelRefusal, cell_cause}

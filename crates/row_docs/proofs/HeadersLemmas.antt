@@ -12,7 +12,7 @@ use Rattle.std.proofs.lemmas.Slice.Eq.{bytes_eq-Decides}
 use Rattle.serde_json.specs.Data.{Data, Members, member, no_members, put}
 use Rattle.serde_json.specs.Find.{as_str, get_member}
 use Rattle.serde_json.proofs.Views.{get_member-put, get_member-put_other}
-use Rattle.json_docs.specs.Checks.{Check}
+use Rattle.json_docs.specs.FaultChecks.{Check}
 use Rattle.json_docs.specs.Parts.{items_in, u64_in}
 use Rattle.json_docs.specs.declared.fault.DocCause.{DocCause}
 use Rattle.row_docs.specs.HeaderSeen.{Shows, ShowsOthers, ShowsRows, is_text}

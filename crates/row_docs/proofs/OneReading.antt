@@ -3,7 +3,7 @@ use Rattle.std.proofs.Common.{◌≡◌, ◌∙◌, ℕ, List, [], ◌∷◌, ma
 use Rattle.std.specs.Prelude.{Option, Some}
 use Rattle.serde_json.specs.Data.{Data}
 use Rattle.cell_core.specs.Entry.{EntryKey}
-use Rattle.json_docs.specs.Checks.{AllPass, AreJson, Check}
+use Rattle.json_docs.specs.FaultChecks.{AllPass, AreJson, Check}
 use Rattle.row_docs.specs.Reading.{Reads}
 use Rattle.row_docs.specs.Rising.{AreEntries}
 use Rattle.catalogue.proofs.Basics.{some_same as inside}

@@ -1,6 +1,6 @@
 -- A reader's refusal, as that of an input document.
 use Rattle.std.proofs.Common.{ℕ, ap, inl, inr, refl}
-use Rattle.json_docs.specs.Checks.{OrMemory}
+use Rattle.json_docs.specs.FaultChecks.{OrMemory}
 use Rattle.json_docs.specs.Faults.{of_document}
 use Rattle.json_docs.specs.declared.fault.DocCause.{DocCause}
 use Rattle.json_docs.specs.declared.fault.DocCause.TheVariants.{NoMemory}

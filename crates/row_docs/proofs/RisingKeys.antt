@@ -10,12 +10,12 @@ use Rattle.cell_core.specs.Keyed.{IsMap}
 use Rattle.cell_core.specs.declared.stamp.Stamp.{Stamp}
 use Rattle.cell_core.specs.Entry.{EntryKey, key_cmp, key_cmp_total}
 use Rattle.catalogue.specs.Entries.{Entry}
-use Rattle.json_docs.specs.Checks.{AllPass, Check, rows_checks}
-use Rattle.json_docs.proofs.ChecksLemmas.{AllPass-rest, AllPass-front}
+use Rattle.json_docs.specs.FaultChecks.{AllPass, Check, rows_checks}
+use Rattle.json_docs.proofs.FaultChecksLemmas.{AllPass-rest, AllPass-front}
 use Rattle.row_docs.specs.Fields.{IsAfter, order_check}
 use Rattle.row_docs.specs.Rising.{AreEntries, cell_checks, entry_in, last_key, own_cell_checks}
 use Rattle.row_docs.specs.Rising.{own_stamp_checks, stamp_checks, stamped_in}
-use Rattle.row_docs.specs.Rows.{cell_in, stamp_in}
+use Rattle.row_docs.specs.ShapesRows.{cell_in, stamp_in}
 use Rattle.row_docs.specs.declared.version.Version.{Version}
 use Rattle.cell_core.proofs.Basics.{both_parts}
 use Rattle.row_docs.proofs.RisingLemmas.{key_of_cell, key_of_stamp, last_key-push}

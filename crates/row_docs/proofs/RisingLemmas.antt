@@ -11,7 +11,7 @@ use Rattle.cell_core.specs.Keyed.{IsMap}
 use Rattle.cell_core.specs.Entry.{EntryKey, key_cmp}
 use Rattle.catalogue.specs.Entries.{Entry, IsAboveAll}
 use Rattle.cell_core.specs.declared.stamp.Stamp.{Stamp}
-use Rattle.json_docs.specs.Checks.{AllPass, Check, FirstFails}
+use Rattle.json_docs.specs.FaultChecks.{AllPass, Check, FirstFails}
 use Rattle.json_docs.specs.declared.fault.DocCause.{DocCause}
 use Rattle.json_docs.specs.declared.fault.DocCause.TheVariants.{CellOrder, NoMemory}
 use Rattle.row_docs.specs.EntriesSeen.{entry_by, stamped_by}
@@ -19,14 +19,14 @@ use Rattle.row_docs.specs.Fields.{cell_fields, IsAfter, entry_of, key_of, order_
 use Rattle.row_docs.specs.Fields.{stamp_fields, stamped_of}
 use Rattle.row_docs.specs.Rising.{AreEntries, entry_in, MakesEntries, last_key, no_row}
 use Rattle.row_docs.specs.Rising.{own_cell_checks, own_stamp_checks, stamped_in}
-use Rattle.row_docs.specs.Rows.{cell_in, stamp_in}
-use Rattle.row_docs.specs.Values.{Row}
+use Rattle.row_docs.specs.ShapesRows.{cell_in, stamp_in}
+use Rattle.row_docs.specs.EntriesValues.{Row}
 use Rattle.row_docs.specs.declared.fields.CellEntry.{CellEntry}
 use Rattle.row_docs.specs.declared.fields.StampEntry.{StampEntry}
 use Rattle.row_docs.specs.declared.version.Version.{Version}
-use Rattle.catalogue.proofs.BehindLemmas.{IsMap-behind}
-use Rattle.catalogue.proofs.LastKeysLemmas.{above_last, above_none}
-use Rattle.json_docs.proofs.ChecksLemmas.{AllPass-both, FirstFails-rest}
+use Rattle.catalogue.proofs.CatalogueAboveLemmas.{IsMap-behind}
+use Rattle.catalogue.proofs.PlacesLastKeysLemmas.{above_last, above_none}
+use Rattle.json_docs.proofs.FaultChecksLemmas.{AllPass-both, FirstFails-rest}
 use Rattle.lang_core.proofs.Basics.{less_of}
 
 at_end : (xs : List Data) (x : Data) → slice_get (xs ++ x ∷ []) (length xs) ≡ Some x

@@ -5,7 +5,7 @@ use Rattle.cell_core.specs.declared.stamp.Stamp.{Stamp}
 use Rattle.cata_core.specs.Delta.{Stamps}
 use Rattle.cell_core.specs.Entry.{EntryKey}
 use Rattle.catalogue.specs.Entries.{Entries, Entry}
-use Rattle.row_docs.specs.Values.{Row, cell_value, stamp_value}
+use Rattle.row_docs.specs.EntriesValues.{Row, cell_value, stamp_value}
 
 -- the key and the stamp of an entry
 abbrev pub row_of : Entry → Row

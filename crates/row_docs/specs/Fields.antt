@@ -16,11 +16,11 @@ use Rattle.catalogue.specs.Entries.{Entry}
 use Rattle.lang_core.specs.Lang.{RefusesLang, SpellsLang}
 use Rattle.lang_core.specs.declared.fault.LangFault.{LangFault}
 use Rattle.lang_core.specs.declared.fault.LangFault.TheVariants as lang
-use Rattle.json_docs.specs.Checks.{Check, check}
+use Rattle.json_docs.specs.FaultChecks.{Check, check}
 use Rattle.json_docs.specs.declared.fault.DocCause.{DocCause}
 use Rattle.json_docs.specs.declared.fault.DocCause.TheVariants.{CellOrder, Field, NoMemory}
 use Rattle.json_docs.specs.declared.fault.FieldFault.TheVariants.{Cell, Language}
-use Rattle.row_docs.specs.Values.{Row}
+use Rattle.row_docs.specs.EntriesValues.{Row}
 
 -- ---- what the fields make
 

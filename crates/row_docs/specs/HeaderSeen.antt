@@ -4,8 +4,8 @@ use Rattle.std.specs.Prelude.{is_some, option_and_then}
 use Rattle.std.specs.Str.{bytes_eq}
 use Rattle.serde_json.specs.Data.{Data, Members}
 use Rattle.serde_json.specs.Find.{as_str, get_member}
-use Rattle.json_docs.specs.Arrays.{TakesRows}
-use Rattle.json_docs.specs.Checks.{Check}
+use Rattle.json_docs.specs.ScanningArrays.{TakesRows}
+use Rattle.json_docs.specs.FaultChecks.{Check}
 use Rattle.json_docs.specs.Parts.{items_in, u64_in}
 use Rattle.json_docs.specs.declared.fault.DocCause.{DocCause}
 use Rattle.row_docs.specs.Headers.{IsSubject}

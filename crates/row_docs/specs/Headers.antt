@@ -4,7 +4,7 @@ use Rattle.std.specs.Prelude.{is_some, if◌then◌else◌, unwrap_or, option_an
 use Rattle.cell_core.specs.SiteName.{IsSiteName}
 use Rattle.serde_json.specs.Data.{Data, null}
 use Rattle.serde_json.specs.Find.{as_str, get}
-use Rattle.json_docs.specs.Checks.{Check, check}
+use Rattle.json_docs.specs.FaultChecks.{Check, check}
 use Rattle.json_docs.specs.Parts.{items_in, u64_in}
 use Rattle.json_docs.specs.declared.fault.DocCause.TheVariants.{Shape, VersionUnknown}
 use Rattle.row_docs.specs.Kinds.{is_among, kind_text, names_of, rows_of, subject_of}

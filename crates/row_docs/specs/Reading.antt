@@ -1,7 +1,7 @@
 -- What a reader answers on the bytes of a document, and how it names a refusal.
 use Rattle.std.specs.Prelude.{◌≡◌, ℕ, List}
 use Rattle.serde_json.specs.Data.{Data}
-use Rattle.json_docs.specs.Checks.{AllPass, AreJson, Check}
+use Rattle.json_docs.specs.FaultChecks.{AllPass, AreJson, Check}
 use Rattle.json_docs.specs.Faults.{of_document, of_no_document}
 use Rattle.json_docs.specs.declared.fault.DocCause.{DocCause}
 use Rattle.json_docs.specs.declared.fault.DocCause.TheVariants.{NoMemory}

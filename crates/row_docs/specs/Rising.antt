@@ -6,12 +6,12 @@ use Rattle.cell_core.specs.declared.stamp.Stamp.{Stamp}
 use Rattle.cell_core.specs.Keyed.{IsMap}
 use Rattle.cell_core.specs.Entry.{EntryKey, key_cmp}
 use Rattle.catalogue.specs.Entries.{Entry}
-use Rattle.json_docs.specs.Checks.{Check, check}
+use Rattle.json_docs.specs.FaultChecks.{Check, check}
 use Rattle.json_docs.specs.declared.fault.DocCause.TheVariants.{Shape}
 use Rattle.row_docs.specs.Fields.{cell_fields, entry_of, key_of, order_check, stamp_fields}
 use Rattle.row_docs.specs.Fields.{stamped_of}
-use Rattle.row_docs.specs.Rows.{cell_in, stamp_in}
-use Rattle.row_docs.specs.Values.{Row}
+use Rattle.row_docs.specs.ShapesRows.{cell_in, stamp_in}
+use Rattle.row_docs.specs.EntriesValues.{Row}
 use Rattle.row_docs.specs.declared.version.Version.{Version}
 use Rattle.json_docs.specs.declared.fault.Spot.TheVariants as spot
 

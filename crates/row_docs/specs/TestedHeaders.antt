@@ -2,8 +2,8 @@
 use Rattle.std.specs.Prelude.{◌≡◌, ◌⊎◌, ℕ, List, [], None, Some}
 use Rattle.serde_json.specs.Data.{Data}
 use Rattle.serde_json.specs.Read.{read}
-use Rattle.json_docs.specs.Arrays.{TakesRows}
-use Rattle.json_docs.specs.Checks.{AllPass, Check, FirstFails, IsRefusal}
+use Rattle.json_docs.specs.ScanningArrays.{TakesRows}
+use Rattle.json_docs.specs.FaultChecks.{AllPass, Check, FirstFails, IsRefusal}
 use Rattle.json_docs.specs.declared.fault.DocCause.{DocCause}
 use Rattle.json_docs.specs.declared.fault.DocCause.TheVariants.{NotJson}
 use Rattle.row_docs.specs.Headers.{IsSubject, header_checks, rows_in, subject_data, version_of}

@@ -1,9 +1,9 @@
 //! The entries of a catalogue and of a summary as rows of documents.
 ghost use Rattle.std.specs.Prelude.{OnOk};
 ghost use Rattle.row_docs.specs.Entries.{row_of, stamped_value};
-ghost use Rattle.row_docs.specs.Texts.{Adds, value_tokens};
-ghost use Rattle.row_docs.specs.Valid.{IsKeptCell, IsKeptStamp};
-ghost use Rattle.row_docs.specs.Values.{cell_value};
+ghost use Rattle.row_docs.specs.WritingTexts.{Adds, value_tokens};
+ghost use Rattle.row_docs.specs.EntriesValid.{IsKeptCell, IsKeptStamp};
+ghost use Rattle.row_docs.specs.EntriesValues.{cell_value};
 
 use crate::writing::{WrittenRow, write_cell, write_stamp};
 use cell_core::{Cell, MessageId, Stamp};

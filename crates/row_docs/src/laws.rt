@@ -1,13 +1,13 @@
 //! Laws over the definitions alone, each the contract of a function that does nothing.
 ghost use Rattle.serde_json.specs.Data.{Data};
-ghost use Rattle.row_docs.specs.Texts.{IsOneLine, text};
+ghost use Rattle.row_docs.specs.WritingTexts.{IsOneLine, text};
 ghost use Rattle.std.specs.Prelude.{◌≡◌, Some, List, Option, ℕ};
-ghost use Rattle.cata_core.specs.Migration.{OldEntry, migrated_entry};
+ghost use Rattle.cata_core.specs.SiteMigration.{OldEntry, migrated_entry};
 ghost use Rattle.row_docs.specs.Fields.{entry_of};
-ghost use Rattle.row_docs.specs.Rows.{cell_in};
-ghost use Rattle.row_docs.specs.Values.{Row};
+ghost use Rattle.row_docs.specs.ShapesRows.{cell_in};
+ghost use Rattle.row_docs.specs.EntriesValues.{Row};
 ghost use Rattle.row_docs.specs.declared.version.Version.TheVariants.{One};
-ghost use Rattle.row_docs.specs.OldRows.{old_entry_in};
+ghost use Rattle.row_docs.specs.ShapesMigration.{old_entry_in};
 
 /// What is written for a value is one line, and ends in its line feed.
 pub fn a_written_text_is_one_line()

@@ -1,8 +1,8 @@
 //! The rows of sites, deltas and summaries, which come in ascending order of key.
 ghost use Rattle.std.specs.Prelude.{◌≡◌, Some, MatchResult};
 ghost use Rattle.json.specs.Value.{value_view};
-ghost use Rattle.json_docs.specs.Checks.{AllPass, FirstFails, OrMemory};
-ghost use Rattle.json_docs.specs.Reads.{IsRead, seen};
+ghost use Rattle.json_docs.specs.FaultChecks.{AllPass, FirstFails, OrMemory};
+ghost use Rattle.json_docs.specs.ScanningReads.{IsRead, seen};
 ghost use Rattle.json_docs.specs.declared.fault.DocCause.TheVariants.{NoMemory};
 ghost use Rattle.row_docs.specs.EntriesSeen.{entry_by, stamped_by};
 ghost use Rattle.row_docs.specs.Rising.{MakesEntries, entry_in, own_cell_checks};

@@ -3,10 +3,10 @@ ghost use Rattle.std.specs.Prelude.{◌≡◌, IfSome, is_some, map, option_map}
 ghost use Rattle.std.specs.List.{list_all};
 ghost use Rattle.json.specs.Value.{value_view};
 ghost use Rattle.serde_json.specs.Find.{as_str};
-ghost use Rattle.json_docs.specs.Reads.{IsRead, seen};
+ghost use Rattle.json_docs.specs.ScanningReads.{IsRead, seen};
 ghost use Rattle.json_docs.specs.Parts.{texts_in};
-ghost use Rattle.row_docs.specs.Rows.{cell_in, label_in, parts_in, site_in, stamp_in};
-ghost use Rattle.row_docs.specs.RowsSeen.{AreTextsOf, cell_of, row_of, site_of, texts_of};
+ghost use Rattle.row_docs.specs.ShapesRows.{cell_in, label_in, parts_in, site_in, stamp_in};
+ghost use Rattle.row_docs.specs.ShapesRowsSeen.{AreTextsOf, cell_of, row_of, site_of, texts_of};
 
 use crate::version::Version;
 use json::Value;

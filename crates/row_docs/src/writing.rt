@@ -5,9 +5,9 @@ ghost use Rattle.json.specs.Print.{print};
 ghost use Rattle.json.specs.Token.{begin_object, end_object, begin_array, end_array, key, number};
 ghost use Rattle.json.specs.Token.{string, null};
 ghost use Rattle.serde_json.specs.Data.{Data};
-ghost use Rattle.row_docs.specs.Texts.{Adds, value_tokens};
-ghost use Rattle.row_docs.specs.Values.{cell_value, label_value, stamp_value, texts_value};
-ghost use Rattle.row_docs.specs.Written.{parts_tokens, row_of, texts_of};
+ghost use Rattle.row_docs.specs.WritingTexts.{Adds, value_tokens};
+ghost use Rattle.row_docs.specs.EntriesValues.{cell_value, label_value, stamp_value, texts_value};
+ghost use Rattle.row_docs.specs.WritingSeen.{parts_tokens, row_of, texts_of};
 
 use json::Writer;
 use json_docs::Doc;

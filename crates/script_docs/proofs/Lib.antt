@@ -1,6 +1,6 @@
-pub mod FieldWrittenLemmas
-pub mod OldScriptsLemmas
-pub mod OneScript
-pub mod ScriptWrittenLemmas
+pub mod FieldWritingLemmas
+pub mod ReadingOneScript
+pub mod ScriptsMigrationLemmas
 pub mod StepsLemmas
 pub mod StepsWrittenLemmas
+pub mod WritingLemmas

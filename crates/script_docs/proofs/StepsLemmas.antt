@@ -3,7 +3,7 @@ use Rattle.std.proofs.Common.{◌≡◌, ◌++◌, List, [], ◌∷◌, length, 
 use Rattle.std.specs.Prelude.{Some}
 use Rattle.cata_core.specs.declared.step.Step.{Step}
 use Rattle.serde_json.specs.Data.{Data}
-use Rattle.json_docs.specs.Checks.{AllPass}
+use Rattle.json_docs.specs.FaultChecks.{AllPass}
 use Rattle.row_docs.specs.declared.version.Version.{Version}
 use Rattle.script_docs.specs.StepFields.{AreSteps, IsStep, step_checks, step_fields}
 use Rattle.script_docs.specs.Steps.{StepText, step_in}

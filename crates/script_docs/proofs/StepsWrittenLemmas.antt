@@ -18,22 +18,22 @@ use Rattle.serde_json.specs.Read.{of_items, of_json}
 use Rattle.serde_json.specs.View.{items_of}
 use Rattle.serde_json.specs.Written.{items_outline, outline}
 use Rattle.serde_json.proofs.Numbers.{number_of-decimal}
-use Rattle.json_docs.specs.Checks.{AllPass, rows_checks}
+use Rattle.json_docs.specs.FaultChecks.{AllPass, rows_checks}
 use Rattle.row_docs.specs.Entries.{row_of}
-use Rattle.row_docs.specs.Rows.{cell_in}
-use Rattle.row_docs.specs.Valid.{IsKeptCell}
-use Rattle.row_docs.specs.Values.{Row, cell_value, label_value}
+use Rattle.row_docs.specs.ShapesRows.{cell_in}
+use Rattle.row_docs.specs.EntriesValid.{IsKeptCell}
+use Rattle.row_docs.specs.EntriesValues.{Row, cell_value, label_value}
 use Rattle.row_docs.specs.declared.version.Version.TheVariants.{Two}
-use Rattle.script_docs.specs.FieldWritten.{field_text}
-use Rattle.script_docs.specs.ScriptWritten.{AreRowsOf}
+use Rattle.script_docs.specs.FieldWriting.{field_text}
+use Rattle.script_docs.specs.Writing.{AreRowsOf}
 use Rattle.script_docs.specs.StepFields.{AreSteps, Lists, default_checks, step_checks}
 use Rattle.script_docs.specs.Steps.{StepText, edit_step, merge_step, filter_step, lookup_step}
 use Rattle.script_docs.specs.Steps.{cells_step, tell_step, post_step, deliver_step, step_in}
 use Rattle.script_docs.specs.StepsWritten.{FitsMember, HasRoom, IsDefault, IsRowOf, IsWritableStep}
 use Rattle.script_docs.specs.StepsWritten.{step_row, step_value}
-use Rattle.json_docs.proofs.ChecksLemmas.{AllPass-both}
-use Rattle.row_docs.proofs.LowerLemmas.{lower-IsLang, spells-IsLang}
-use Rattle.row_docs.proofs.WrittenRows.{label_again, narrow}
+use Rattle.json_docs.proofs.FaultChecksLemmas.{AllPass-both}
+use Rattle.row_docs.proofs.EntriesLowerLemmas.{lower-IsLang, spells-IsLang}
+use Rattle.row_docs.proofs.EntriesWrittenRows.{label_again, narrow}
 use Rattle.script_docs.proofs.StepsLemmas.{step_passes}
 
 -- ---- the text of a row

@@ -1,9 +1,9 @@
-pub mod FieldWritten
-pub mod OldScripts
-pub mod ScriptReads
-pub mod ScriptWritten
+pub mod FieldWriting
+pub mod Reading
 pub mod Scripts
+pub mod ScriptsMigration
 pub mod StepFields
 pub mod Steps
 pub mod StepsSeen
 pub mod StepsWritten
+pub mod Writing

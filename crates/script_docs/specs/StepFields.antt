@@ -13,7 +13,7 @@ use Rattle.cata_core.specs.declared.step.Step.{Step}
 use Rattle.cata_core.specs.declared.step.Step.TheVariants.{Edit, Merge, AskFilter, AskLookup}
 use Rattle.cata_core.specs.declared.step.Step.TheVariants.{AskCells, Tell, Post, Deliver}
 use Rattle.serde_json.specs.Data.{Data}
-use Rattle.json_docs.specs.Checks.{Check, check}
+use Rattle.json_docs.specs.FaultChecks.{Check, check}
 use Rattle.json_docs.specs.declared.fault.DocCause.{DocCause}
 use Rattle.json_docs.specs.declared.fault.DocCause.TheVariants.{Field, Shape}
 use Rattle.json_docs.specs.declared.fault.FieldFault.TheVariants.{Priorities}

@@ -7,8 +7,8 @@ use Rattle.list_core.specs.declared.scheme.Scheme.TheVariants.{Basic, Extended}
 use Rattle.serde_json.specs.Data.{Data, null, boolean, number, string, array, object}
 use Rattle.serde_json.specs.Find.{as_str}
 use Rattle.json_docs.specs.Parts.{items_in, u32_in}
-use Rattle.row_docs.specs.Rows.{cell_in}
-use Rattle.row_docs.specs.Values.{Row}
+use Rattle.row_docs.specs.ShapesRows.{cell_in}
+use Rattle.row_docs.specs.EntriesValues.{Row}
 use Rattle.row_docs.specs.declared.version.Version.{Version}
 use Rattle.script_docs.specs.declared.steps.Word.{Word}
 use Rattle.script_docs.specs.declared.steps.Word.TheVariants.{Edit, Merge, Filter, Lookup, Cells}

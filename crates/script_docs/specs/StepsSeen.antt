@@ -1,6 +1,6 @@
 -- A step that was read, without where it lies in memory.
 use Rattle.std.specs.Prelude.{option_map}
-use Rattle.row_docs.specs.RowsSeen.{AreTextsOf, cell_of}
+use Rattle.row_docs.specs.ShapesRowsSeen.{AreTextsOf, cell_of}
 use Rattle.script_docs.specs.Steps.{StepText, edit_step, merge_step, filter_step, lookup_step}
 use Rattle.script_docs.specs.Steps.{cells_step, tell_step, post_step, deliver_step}
 use Rattle.script_docs.specs.declared.steps.StepRow.{StepRow}

@@ -8,13 +8,13 @@ use Rattle.lang_core.specs.Lang.{IsLang}
 use Rattle.list_core.specs.declared.scheme.Scheme.{Scheme}
 use Rattle.list_core.specs.declared.scheme.Scheme.TheVariants.{Basic, Extended}
 use Rattle.serde_json.specs.Data.{Data, null, array, number, unsigned, string, no_items, item}
-use Rattle.json_docs.specs.Checks.{AllPass, OrMemory}
+use Rattle.json_docs.specs.FaultChecks.{AllPass, OrMemory}
 use Rattle.json_docs.specs.declared.fault.DocCause.{DocCause}
 use Rattle.json_docs.specs.declared.fault.DocCause.TheVariants.{NoMemory, Shape}
 use Rattle.row_docs.specs.Entries.{row_of}
-use Rattle.row_docs.specs.Texts.{Adds, value_tokens}
-use Rattle.row_docs.specs.Values.{Row, cell_value}
-use Rattle.script_docs.specs.FieldWritten.{IsListed, field_text}
+use Rattle.row_docs.specs.WritingTexts.{Adds, value_tokens}
+use Rattle.row_docs.specs.EntriesValues.{Row, cell_value}
+use Rattle.script_docs.specs.FieldWriting.{IsListed, field_text}
 use Rattle.script_docs.specs.StepFields.{Makes, step_fields}
 use Rattle.script_docs.specs.Steps.{StepText, edit_step, merge_step, filter_step, lookup_step}
 use Rattle.script_docs.specs.Steps.{cells_step, tell_step, post_step, deliver_step}

@@ -2,8 +2,8 @@
 ghost use Rattle.std.specs.Prelude.{◌≡◌, ◌≢◌, ◌≤◌, ◌<◌, ◌+◌, ◌∷◌, ◌++◌, [], flat_map, string_bytes};
 ghost use Rattle.std.specs.Prelude.{false, IfOk, OnOk, MatchBool, MatchOption};
 ghost use Rattle.list_core.specs.declared.fault.NegoFault.TheVariants.{NoMemory};
-ghost use Rattle.script_docs.specs.FieldWritten.{IsListed, field_text, fraction_text, item_text};
-ghost use Rattle.script_docs.specs.FieldWritten.{ones_text, tens_text, weight_text};
+ghost use Rattle.script_docs.specs.FieldWriting.{IsListed, field_text, fraction_text, item_text};
+ghost use Rattle.script_docs.specs.FieldWriting.{ones_text, tens_text, weight_text};
 ghost use Rattle.script_docs.specs.StepFields.{Lists};
 
 use nego_core::{Item, Malformed, NegoFault, PriorityList, Scheme};

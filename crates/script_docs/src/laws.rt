@@ -2,14 +2,15 @@
 ghost use Rattle.std.specs.Prelude.{◌≡◌, ◌≤◌, ℕ, List, length};
 ghost use Rattle.list_core.specs.Item.{Item};
 ghost use Rattle.list_core.specs.declared.scheme.Scheme.{Scheme};
-ghost use Rattle.script_docs.specs.FieldWritten.{field_text};
-ghost use Rattle.script_docs.specs.ScriptReads.{ReadsAsScript, IsScriptDocument};
+ghost use Rattle.script_docs.specs.FieldWriting.{field_text};
+ghost use Rattle.script_docs.specs.Reading.{ReadsAsScript, IsScriptDocument};
 ghost use Rattle.script_docs.specs.Scripts.{ScriptState};
 ghost use Rattle.script_docs.specs.StepFields.{Lists};
 ghost use Rattle.serde_json.specs.Data.{Data};
 ghost use Rattle.row_docs.specs.Headers.{version_of};
 ghost use Rattle.row_docs.specs.declared.version.Version.TheVariants.{One};
-ghost use Rattle.script_docs.specs.OldScripts.{IsOldScriptDocument, OldScript, migrated_script};
+ghost use Rattle.script_docs.specs.ScriptsMigration.{IsOldScriptDocument, OldScript};
+ghost use Rattle.script_docs.specs.ScriptsMigration.{migrated_script};
 
 /// A text reads as one script at most.
 pub fn one_script()

@@ -1,11 +1,11 @@
 //! Documents of scripts, read.
 ghost use Rattle.std.specs.Prelude.{◌≡◌, None, Some, is_some, true, MatchResult};
 ghost use Rattle.serde_json.specs.Data.{Data};
-ghost use Rattle.json_docs.specs.Checks.{AllPass, AreJson, OrMemory};
+ghost use Rattle.json_docs.specs.FaultChecks.{AllPass, AreJson, OrMemory};
 ghost use Rattle.row_docs.specs.Headers.{IsSubject, rows_in, subject_data, version_of};
 ghost use Rattle.row_docs.specs.Reading.{IsOfDocument, no_memory};
-ghost use Rattle.script_docs.specs.ScriptReads.{ReadsAsScript, RefusesScript, count_of};
-ghost use Rattle.script_docs.specs.ScriptReads.{script_checks, sites_in};
+ghost use Rattle.script_docs.specs.Reading.{ReadsAsScript, RefusesScript, count_of};
+ghost use Rattle.script_docs.specs.Reading.{script_checks, sites_in};
 ghost use Rattle.script_docs.specs.Scripts.{IsSiteCount};
 ghost use Rattle.script_docs.specs.StepFields.{AreSteps};
 ghost use Rattle.row_docs.specs.declared.kind.Kind.TheVariants as kind;

@@ -1,7 +1,7 @@
 //! Scripts: steps of several sites, as a document has them.
 ghost use Rattle.std.specs.Prelude.{◌≡◌};
 ghost use Rattle.json.specs.Value.{value_view};
-ghost use Rattle.json_docs.specs.Reads.{IsRead, seen};
+ghost use Rattle.json_docs.specs.ScanningReads.{IsRead, seen};
 
 use crate::step_fields::read_step;
 use crate::steps::step_of;

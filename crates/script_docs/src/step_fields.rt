@@ -1,9 +1,9 @@
 //! The fields of a step, each by the call that reads it.
 ghost use Rattle.std.specs.Prelude.{◌≡◌, option_map, MatchResult};
 ghost use Rattle.std.specs.Str.{str_to_ascii_lowercase};
-ghost use Rattle.json_docs.specs.Checks.{AllPass, FirstFails, OrMemory};
+ghost use Rattle.json_docs.specs.FaultChecks.{AllPass, FirstFails, OrMemory};
 ghost use Rattle.json_docs.specs.declared.fault.DocCause.TheVariants.{NoMemory};
-ghost use Rattle.row_docs.specs.RowsSeen.{AreTextsOf, cell_of};
+ghost use Rattle.row_docs.specs.ShapesRowsSeen.{AreTextsOf, cell_of};
 ghost use Rattle.script_docs.specs.StepFields.{IsListRefusal, Lists, Makes, default_checks};
 ghost use Rattle.script_docs.specs.StepFields.{step_fields};
 ghost use Rattle.script_docs.specs.Steps.{edit_step, filter_step, lookup_step};

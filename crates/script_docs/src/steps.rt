@@ -1,7 +1,7 @@
 //! The shapes of the steps of a script.
 ghost use Rattle.std.specs.Prelude.{◌≡◌, ℕ, IfSome, map, option_map};
 ghost use Rattle.json.specs.Value.{value_view};
-ghost use Rattle.json_docs.specs.Reads.{AreRead, IsRead, seen};
+ghost use Rattle.json_docs.specs.ScanningReads.{AreRead, IsRead, seen};
 ghost use Rattle.script_docs.specs.Steps.{StepText, default_in, edit_of, filter_of, lookup_of};
 ghost use Rattle.script_docs.specs.Steps.{one_of, scheme_of, step_after, step_in, two_of, word_of};
 ghost use Rattle.script_docs.specs.StepsSeen.{HasTexts, text_of};

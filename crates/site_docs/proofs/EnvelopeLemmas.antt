@@ -13,18 +13,18 @@ use Rattle.cata_core.specs.Summary.{SummaryState}
 use Rattle.cata_core.specs.declared.delta.Delta.{Delta as DeltaState}
 use Rattle.row_docs.specs.Entries.{cells_values, stamps_values}
 use Rattle.row_docs.specs.Kinds.{kind_text, subject_of}
-use Rattle.row_docs.specs.Texts.{text}
+use Rattle.row_docs.specs.WritingTexts.{text}
 use Rattle.row_docs.specs.declared.kind.Kind.{Kind}
 use Rattle.row_docs.specs.declared.kind.Kind.TheVariants.{Delta, Site}
 use Rattle.site_docs.specs.Envelope.{IsFront, IsStampsFront, cells_opening, end_text, stamps_end}
 use Rattle.site_docs.specs.Envelope.{stamps_opening}
 use Rattle.site_docs.specs.Documents.{delta_text, site_text, summary_text}
 use Rattle.site_docs.specs.Plain.{cells_document, last_members, open_items}
-use Rattle.site_docs.specs.ReadsAs.{IsDeltaText, IsSiteText, IsSummaryText, ReadsAsDelta}
-use Rattle.site_docs.specs.ReadsAs.{ReadsAsSite, ReadsAsSummary}
-use Rattle.site_docs.specs.Values.{summary_value}
+use Rattle.site_docs.specs.Reading.{IsDeltaText, IsSiteText, IsSummaryText, ReadsAsDelta}
+use Rattle.site_docs.specs.Reading.{ReadsAsSite, ReadsAsSummary}
+use Rattle.site_docs.specs.DocumentsValues.{summary_value}
 use Rattle.site_docs.proofs.PlainLemmas.{items_closed, whole}
-use Rattle.site_docs.proofs.RoundTrip.{delta_again, site_again, summary_again}
+use Rattle.site_docs.proofs.WritingRoundTrip.{delta_again, site_again, summary_again}
 
 cells_joined : (cells items kind_name kind subject name version two : List ℕ)
     → ((123 ∷ ((cells ++ 58 ∷ []) ++ 91 ∷ [])) ++ items)

@@ -8,7 +8,7 @@ use Rattle.lang_core.specs.Text.{pieces}
 use Rattle.lang_core.specs.declared.fault.LangFault.{LangFault}
 use Rattle.lang_core.specs.declared.fault.LangFault.TheVariants as lang
 use Rattle.lang_core.proofs.Basics.{each_true}
-use Rattle.row_docs.proofs.LowerLemmas.{lower-IsLang}
+use Rattle.row_docs.proofs.EntriesLowerLemmas.{lower-IsLang}
 
 -- a piece that is refused is not in a list of allowed ones
 pub not_allowed : (allowed : ℕ → List ℕ → Bool) (from : ℕ) (before after : List (List ℕ))

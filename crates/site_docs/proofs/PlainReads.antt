@@ -8,13 +8,13 @@ use Rattle.cata_core.specs.Delta.{summary_of}
 use Rattle.cell_core.specs.Entry.{key_cmp}
 use Rattle.catalogue.specs.Entries.{Entries}
 use Rattle.cata_core.specs.Site.{SiteState}
-use Rattle.json_docs.proofs.LineFeed.{read-line_feed}
+use Rattle.json_docs.proofs.TextLineFeed.{read-line_feed}
 use Rattle.row_docs.specs.Entries.{cells_values}
 use Rattle.site_docs.specs.Plain.{IsPlainText, IsTextOf, cells_document}
-use Rattle.site_docs.specs.ReadsAs.{IsSummaryText, ReadsAsDelta, ReadsAsSite}
-use Rattle.row_docs.specs.Texts.{text}
+use Rattle.site_docs.specs.Reading.{IsSummaryText, ReadsAsDelta, ReadsAsSite}
+use Rattle.row_docs.specs.WritingTexts.{text}
 use Rattle.row_docs.specs.declared.kind.Kind.TheVariants.{Delta, Site}
-use Rattle.site_docs.proofs.RoundTrip.{reads_delta, reads_site}
+use Rattle.site_docs.proofs.WritingRoundTrip.{reads_delta, reads_site}
 
 -- a text reads as it does without its line feed
 read_same : (d : Data) (bytes : List ℕ) → IsTextOf d bytes → read bytes ≡ read (text d)

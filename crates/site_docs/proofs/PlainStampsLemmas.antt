@@ -11,21 +11,21 @@ use Rattle.cell_core.specs.declared.stamp.Stamp.{Stamp}
 use Rattle.cata_core.specs.Delta.{Stamps}
 use Rattle.cell_core.specs.Entry.{EntryKey}
 use Rattle.catalogue.specs.Entries.{IsAboveAll}
-use Rattle.catalogue.proofs.BehindLemmas.{IsMap-behind}
-use Rattle.json_docs.proofs.LineFeed.{read-line_feed}
+use Rattle.catalogue.proofs.CatalogueAboveLemmas.{IsMap-behind}
+use Rattle.json_docs.proofs.TextLineFeed.{read-line_feed}
 use Rattle.row_docs.specs.Entries.{stamped_value, stamps_values}
-use Rattle.row_docs.specs.Texts.{text}
-use Rattle.row_docs.specs.Valid.{AreKeptStamps, IsKeptStamp}
-use Rattle.row_docs.specs.Values.{Row, stamp_value}
+use Rattle.row_docs.specs.WritingTexts.{text}
+use Rattle.row_docs.specs.EntriesValid.{AreKeptStamps, IsKeptStamp}
+use Rattle.row_docs.specs.EntriesValues.{Row, stamp_value}
 use Rattle.site_docs.specs.Plain.{IsEnd, is_later, open_items}
 use Rattle.site_docs.specs.PlainRows.{row_until}
 use Rattle.site_docs.specs.PlainStamps.{stamps_text}
-use Rattle.site_docs.specs.ReadsAs.{ReadsAsSummary}
-use Rattle.site_docs.specs.Values.{summary_value}
+use Rattle.site_docs.specs.Reading.{ReadsAsSummary}
+use Rattle.site_docs.specs.DocumentsValues.{summary_value}
 use Rattle.cata_core.specs.Summary.{SummaryState}
 use Rattle.site_docs.proofs.DocumentsLemmas.{kept_more}
 use Rattle.site_docs.proofs.PlainLemmas.{is_later-map, item_taken}
-use Rattle.site_docs.proofs.RoundTrip.{reads_summary}
+use Rattle.site_docs.proofs.WritingRoundTrip.{reads_summary}
 
 -- a row is its key and its stamp, and its bracket
 pub stamp_taken : (row : Row) (text after : List ℕ) → text ≡ row_until 93 row after

@@ -3,7 +3,7 @@ use Rattle.std.proofs.Common.{◌≡◌, ◌++◌, ◌∷◌, subst, sym}
 use Rattle.cell_core.specs.Keyed.{IsMap}
 use Rattle.cell_core.specs.Entry.{key_cmp}
 use Rattle.catalogue.specs.Entries.{Entries, Entry, IsAboveAll}
-use Rattle.catalogue.proofs.BehindLemmas.{front_below}
+use Rattle.catalogue.proofs.CatalogueAboveLemmas.{front_below}
 
 -- A cell of a catalogue has a greater key than those before it.
 pub shown_above : (all done left : Entries) (e : Entry) → IsMap key_cmp all

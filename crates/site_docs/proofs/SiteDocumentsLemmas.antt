@@ -1,7 +1,7 @@
 -- A document that is refused at its header.
 use Rattle.std.proofs.Common.{◌++◌, ℕ, List, [], inl, inr}
 use Rattle.serde_json.specs.Data.{Data}
-use Rattle.json_docs.specs.Checks.{Check, IsRefusal, OrMemory, rows_checks}
+use Rattle.json_docs.specs.FaultChecks.{Check, IsRefusal, OrMemory, rows_checks}
 use Rattle.json_docs.specs.declared.fault.DocCause.{DocCause}
 use Rattle.json_docs.specs.declared.fault.DocCause.TheVariants.{NoMemory}
 use Rattle.row_docs.specs.Headers.{header_checks, rows_in, subject_data, version_of}
@@ -9,7 +9,7 @@ use Rattle.site_docs.specs.SiteDocuments.{document_checks, subject_checks}
 use Rattle.row_docs.specs.TestedHeaders.{RefusesHeader}
 use Rattle.row_docs.specs.declared.kind.Kind.{Kind}
 use Rattle.row_docs.specs.declared.version.Version.{Version}
-use Rattle.json_docs.proofs.ChecksLemmas.{FirstFails-front}
+use Rattle.json_docs.proofs.FaultChecksLemmas.{FirstFails-front}
 
 -- what refuses the header refuses the document
 pub refused_before : (kind : Kind) (checks : Version → List Data → Data → List Check)

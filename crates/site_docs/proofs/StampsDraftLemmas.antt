@@ -7,7 +7,7 @@ use Rattle.cata_core.specs.Delta.{Stamps, summary_of}
 use Rattle.cell_core.specs.Entry.{EntryKey, key_cmp}
 use Rattle.catalogue.specs.Entries.{Entries, Entry}
 use Rattle.row_docs.specs.Entries.{stamped_value, stamps_values}
-use Rattle.row_docs.specs.Valid.{IsKeptStamp}
+use Rattle.row_docs.specs.EntriesValid.{IsKeptStamp}
 use Rattle.site_docs.specs.Envelope.{IsStampsFront, stamps_opening}
 use Rattle.site_docs.specs.OpenRows.{HoldsOpen}
 use Rattle.site_docs.specs.StampsDraft.{HoldsStamps}

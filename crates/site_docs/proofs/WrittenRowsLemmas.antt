@@ -17,7 +17,7 @@ use Rattle.row_docs.specs.Kinds.{kind_text, subject_of}
 use Rattle.row_docs.specs.declared.kind.Kind.TheVariants.{Site}
 use Rattle.site_docs.specs.Plain.{IsEnd, is_later, last_members, open_items}
 use Rattle.site_docs.specs.PlainRows.{IsLastOf, key_in}
-use Rattle.site_docs.specs.ReadsAs.{ReadsAsSite}
+use Rattle.site_docs.specs.Reading.{ReadsAsSite}
 use Rattle.site_docs.specs.WrittenRows.{HasRead, IsLastRead, IsRead, current_of, entry_at}
 use Rattle.site_docs.specs.WrittenRows.{left_in}
 use Rattle.site_docs.specs.declared.plain.written_rows.ReadRow.{ReadRow}

@@ -4,8 +4,8 @@ use Rattle.cata_core.specs.declared.delta.Delta.{Delta}
 use Rattle.cata_core.specs.Site.{SiteState}
 use Rattle.cata_core.specs.Summary.{SummaryState}
 use Rattle.row_docs.specs.Entries.{cells_values, stamps_values}
-use Rattle.row_docs.specs.Texts.{text}
-use Rattle.site_docs.specs.Values.{delta_value, site_value, summary_value}
+use Rattle.row_docs.specs.WritingTexts.{text}
+use Rattle.site_docs.specs.DocumentsValues.{delta_value, site_value, summary_value}
 
 -- the document of a site, as it is written
 abbrev pub site_text : SiteState → List ℕ

@@ -6,9 +6,9 @@ use Rattle.json.specs.Token.{Token, begin_array, begin_object, end_array, key, s
 use Rattle.cata_core.specs.Delta.{Stamps}
 use Rattle.catalogue.specs.Entries.{Entries}
 use Rattle.row_docs.specs.Entries.{cells_values, stamps_values}
-use Rattle.row_docs.specs.Envelope.{name_tokens, version_tokens}
+use Rattle.row_docs.specs.WritingEnvelope.{name_tokens, version_tokens}
 use Rattle.row_docs.specs.Kinds.{kind_text, subject_of}
-use Rattle.row_docs.specs.Valid.{AreKeptCells, AreKeptStamps}
+use Rattle.row_docs.specs.EntriesValid.{AreKeptCells, AreKeptStamps}
 use Rattle.row_docs.specs.declared.kind.Kind.{Kind}
 use Rattle.site_docs.specs.Plain.{open_items}
 

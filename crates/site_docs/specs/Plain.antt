@@ -11,8 +11,8 @@ use Rattle.cell_core.specs.SiteName.{IsSiteName}
 use Rattle.catalogue.specs.Entries.{Entries}
 use Rattle.row_docs.specs.Entries.{cells_values}
 use Rattle.row_docs.specs.Kinds.{kind_text, subject_of}
-use Rattle.row_docs.specs.Texts.{text}
-use Rattle.row_docs.specs.Valid.{AreKeptCells}
+use Rattle.row_docs.specs.WritingTexts.{text}
+use Rattle.row_docs.specs.EntriesValid.{AreKeptCells}
 use Rattle.row_docs.specs.declared.kind.Kind.{Kind}
 
 -- `{"cells":[..],"kind":KIND,OWN:NAME,"version":2}`

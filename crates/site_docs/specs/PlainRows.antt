@@ -8,7 +8,7 @@ use Rattle.cell_core.specs.declared.stamp.Stamp.{Stamp}
 use Rattle.cell_core.specs.Entry.{EntryKey}
 use Rattle.catalogue.specs.Entries.{Entry, IsAboveAll}
 use Rattle.row_docs.specs.Fields.{IsAfter, stamp_of}
-use Rattle.row_docs.specs.Values.{Row}
+use Rattle.row_docs.specs.EntriesValues.{Row}
 use Rattle.site_docs.specs.declared.plain.rows.Front.{Front}
 use Rattle.site_docs.specs.declared.plain.rows.IdText.{IdText}
 use Rattle.site_docs.specs.declared.plain.rows.IdText.TheVariants.{Plain, Unescaped}

@@ -2,7 +2,7 @@
 use Rattle.std.specs.Prelude.{All}
 use Rattle.catalogue.specs.Entries.{Entries}
 use Rattle.row_docs.specs.Entries.{cells_values}
-use Rattle.row_docs.specs.Valid.{IsKeptCell}
+use Rattle.row_docs.specs.EntriesValid.{IsKeptCell}
 use Rattle.site_docs.specs.Envelope.{cells_opening}
 use Rattle.site_docs.specs.OpenRows.{HoldsOpen}
 use Rattle.site_docs.specs.declared.rows_draft.RowsDraft.{RowsDraft}

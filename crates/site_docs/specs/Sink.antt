@@ -4,7 +4,7 @@ use Rattle.serde_json.specs.Written.{compact_text}
 use Rattle.cell_core.specs.Label.{IsLabel}
 use Rattle.catalogue.specs.Entries.{Entry}
 use Rattle.row_docs.specs.Entries.{entry_value, stamped_value}
-use Rattle.row_docs.specs.Valid.{IsKeptCell}
+use Rattle.row_docs.specs.EntriesValid.{IsKeptCell}
 use Rattle.site_docs.specs.declared.sink.CellRef.{CellRef}
 use Rattle.site_docs.specs.declared.sink.LabelRef.{LabelRef}
 use Rattle.site_docs.specs.declared.sink.LabelRef.TheVariants.{Deleted, Held, Made, Text}

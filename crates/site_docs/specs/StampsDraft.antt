@@ -3,7 +3,7 @@ use Rattle.std.specs.Prelude.{ℕ, All, List}
 use Rattle.cell_core.specs.SiteName.{IsSiteName}
 use Rattle.cata_core.specs.Delta.{Stamps}
 use Rattle.row_docs.specs.Entries.{stamps_values}
-use Rattle.row_docs.specs.Valid.{IsKeptStamp}
+use Rattle.row_docs.specs.EntriesValid.{IsKeptStamp}
 use Rattle.site_docs.specs.Envelope.{stamps_opening}
 use Rattle.site_docs.specs.OpenRows.{HoldsOpen}
 use Rattle.site_docs.specs.declared.stamps_draft.StampsDraft.{StampsDraft}

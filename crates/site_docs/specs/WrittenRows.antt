@@ -7,7 +7,7 @@ use Rattle.serde_json.specs.Written.{compact_text}
 use Rattle.catalogue.specs.Entries.{Entries, Entry, IsAboveAll}
 use Rattle.row_docs.specs.Entries.{cells_values, entry_value}
 use Rattle.row_docs.specs.Fields.{stamp_of}
-use Rattle.row_docs.specs.Valid.{AreKeptCells, IsKeptCell}
+use Rattle.row_docs.specs.EntriesValid.{AreKeptCells, IsKeptCell}
 use Rattle.site_docs.specs.Plain.{open_items}
 use Rattle.site_docs.specs.PlainRows.{IsSpelled, entry_in, row_in}
 use Rattle.site_docs.specs.Sink.{IsLabelRef, texts_of}

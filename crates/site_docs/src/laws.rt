@@ -4,17 +4,17 @@ ghost use Rattle.cell_core.specs.SiteName.{IsSiteName};
 ghost use Rattle.cata_core.specs.Site.{SiteState};
 ghost use Rattle.cata_core.specs.Summary.{SummaryState};
 ghost use Rattle.cata_core.specs.declared.delta.Delta.{Delta};
-ghost use Rattle.row_docs.specs.Valid.{AreKeptCells, AreKeptStamps};
+ghost use Rattle.row_docs.specs.EntriesValid.{AreKeptCells, AreKeptStamps};
 ghost use Rattle.site_docs.specs.Documents.{delta_text, site_text, summary_text};
-ghost use Rattle.site_docs.specs.ReadsAs.{ReadsAsDelta, ReadsAsSite, ReadsAsSummary};
+ghost use Rattle.site_docs.specs.Reading.{ReadsAsDelta, ReadsAsSite, ReadsAsSummary};
 ghost use Rattle.serde_json.specs.Data.{Data};
-ghost use Rattle.cata_core.specs.Migration.{OldDelta, OldSite, OldSummary, migrated_delta};
-ghost use Rattle.cata_core.specs.Migration.{migrated_site, migrated_summary};
+ghost use Rattle.cata_core.specs.SiteMigration.{OldDelta, OldSite, OldSummary, migrated_delta};
+ghost use Rattle.cata_core.specs.SiteMigration.{migrated_site, migrated_summary};
 ghost use Rattle.row_docs.specs.Headers.{version_of};
 ghost use Rattle.site_docs.specs.SiteDocuments.{IsDeltaDocument, IsSiteDocument, IsSummaryDocument};
 ghost use Rattle.row_docs.specs.declared.version.Version.TheVariants.{One};
-ghost use Rattle.site_docs.specs.OldDocuments.{IsOldDeltaDocument, IsOldSiteDocument};
-ghost use Rattle.site_docs.specs.OldDocuments.{IsOldSummaryDocument};
+ghost use Rattle.site_docs.specs.DocumentsMigration.{IsOldDeltaDocument, IsOldSiteDocument};
+ghost use Rattle.site_docs.specs.DocumentsMigration.{IsOldSummaryDocument};
 
 /// The text that is written for a site reads as that site.
 pub fn written_site_reads()

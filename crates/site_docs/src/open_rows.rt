@@ -3,7 +3,7 @@ ghost use Rattle.std.specs.Prelude.{◌≡◌, ◌++◌, ◌∷◌, [], IfOk, Is
 ghost use Rattle.json.specs.Token.{Token};
 ghost use Rattle.serde_json.specs.Data.{Data};
 ghost use Rattle.serde_json.specs.Written.{comma_if, compact_text};
-ghost use Rattle.row_docs.specs.Texts.{value_tokens};
+ghost use Rattle.row_docs.specs.WritingTexts.{value_tokens};
 ghost use Rattle.site_docs.specs.OpenRows.{HoldsOpen};
 ghost use Rattle.site_docs.specs.Plain.{open_items};
 

@@ -5,8 +5,8 @@ ghost use Rattle.cell_core.specs.Keyed.{IsMap};
 ghost use Rattle.cell_core.specs.Entry.{key_cmp};
 ghost use Rattle.catalogue.specs.Entries.{Entries, Entry};
 ghost use Rattle.row_docs.specs.Entries.{entry_value};
-ghost use Rattle.row_docs.specs.Valid.{IsKeptCell};
-ghost use Rattle.site_docs.specs.ReadsAs.{IsDeltaText, IsSiteText};
+ghost use Rattle.row_docs.specs.EntriesValid.{IsKeptCell};
+ghost use Rattle.site_docs.specs.Reading.{IsDeltaText, IsSiteText};
 ghost use Rattle.site_docs.specs.RowsDraft.{HoldsRows};
 ghost use Rattle.site_docs.specs.Sink.{IsLabelRef, IsRowOf, entry_of};
 

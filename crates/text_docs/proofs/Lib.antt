@@ -1,7 +1,7 @@
-pub mod BorderLemmas
+pub mod IdOrderLemmas
 pub mod ListLemmas
 pub mod MessageLemmas
-pub mod OrderLemmas
 pub mod PartLemmas
+pub mod RowBorderLemmas
 pub mod RowLaws
-pub mod States
+pub mod RowStates

@@ -4,11 +4,11 @@ use Rattle.std.proofs.Common.{false, cond, ◌⊎◌, inl, inr, refl, ap, sym, s
 use Rattle.std.proofs.Common.{arith, append_assoc, codes, drop, take, take-append-drop}
 use Rattle.std.specs.Prelude.{Err, MatchResult, Ok, Result}
 use Rattle.cata_core.specs.Site.{SiteState}
-use Rattle.json_docs.specs.Checks.{OrMemory}
+use Rattle.json_docs.specs.FaultChecks.{OrMemory}
 use Rattle.json_docs.specs.declared.fault.DocFault.{DocFault}
 use Rattle.row_docs.specs.Reading.{IsOfDocument, no_memory}
-use Rattle.site_docs.specs.ReadsAs.{RefusesSite}
-use Rattle.site_docs.proofs.OneDocument.{one_site}
+use Rattle.site_docs.specs.Reading.{RefusesSite}
+use Rattle.site_docs.proofs.ReadingOneDocument.{one_site}
 use Rattle.site_docs.proofs.PlainReads.{plain_site}
 use Rattle.query_docs.specs.OneMessage.{IsReadFor}
 use Rattle.docs_core.proofs.CallRefusals.{site_not_refused}
@@ -33,14 +33,14 @@ use Rattle.cell_core.specs.Entry.{key_cmp, text_cmp}
 use Rattle.catalogue.specs.Entries.{Entries, Entry}
 use Rattle.catalogue.specs.Live.{live, live_of}
 use Rattle.row_docs.specs.Entries.{cells_values, entry_value}
-use Rattle.row_docs.specs.Valid.{AreKeptCells, IsKeptCell}
+use Rattle.row_docs.specs.EntriesValid.{AreKeptCells, IsKeptCell}
 use Rattle.row_docs.specs.declared.kind.Kind.TheVariants.{Site}
 use Rattle.site_docs.specs.Plain.{IsEnd, IsPlainText, IsTextOf, cells_document, last_members}
 use Rattle.site_docs.specs.Plain.{open_items, rows_text}
 use Rattle.site_docs.proofs.PlainLemmas.{document_taken, open_later as later_items}
 use Rattle.text_docs.specs.Part.{BeginsAt, BeginsBefore, EndsAfter, EndsAt}
 use Rattle.text_docs.specs.Rows.{AreRows, AreRowsAt, IsTail, opening}
-use Rattle.text_docs.proofs.BorderLemmas.{array_is, rows_step}
+use Rattle.text_docs.proofs.RowBorderLemmas.{array_is, rows_step}
 use Rattle.text_docs.proofs.ListLemmas.{All-back, All-front, cut_twice}
 use Rattle.text_docs.proofs.PartLemmas.{map_back, map_front}
 

@@ -19,9 +19,9 @@ use Rattle.std.proofs.lemmas.Bool.Decides.{nat_tests}
 use Rattle.cell_core.specs.Keyed.{IsMap}
 use Rattle.cell_core.specs.Entry.{EntryKey, key_cmp, text_cmp}
 use Rattle.catalogue.specs.Entries.{Entries, Entry}
-use Rattle.catalogue.proofs.BehindLemmas.{front_below}
+use Rattle.catalogue.proofs.CatalogueAboveLemmas.{front_below}
 use Rattle.row_docs.specs.Entries.{cells_values, row_of}
-use Rattle.row_docs.specs.Valid.{IsKeptCell}
+use Rattle.row_docs.specs.EntriesValid.{IsKeptCell}
 use Rattle.site_docs.specs.Plain.{IsEnd, last_members, open_items}
 use Rattle.site_docs.specs.PlainRows.{row_before}
 use Rattle.text_docs.specs.Part.{BeginsAt, BeginsBefore, EndsAfter, EndsAt}
@@ -31,15 +31,16 @@ use Rattle.lang_core.proofs.Basics.{less_of as less_is}
 use Rattle.cell_core.proofs.Basics.{is_greater as greater_is, both_parts, first_part, second_part}
 use Rattle.docs_core.proofs.JoinedRowsLemmas.{below_part as below_front}
 use Rattle.cell_core.proofs.Basics.{less_than}
-use Rattle.text_docs.proofs.BorderLemmas.{IsBorder, IsCut, byte_44, byte_58, closed_row, comma}
-use Rattle.text_docs.proofs.BorderLemmas.{cut_rows, fit_rows, found_outside, kind_unfit, row_unfit}
-use Rattle.text_docs.proofs.BorderLemmas.{rows_step, skip}
+use Rattle.text_docs.proofs.RowBorderLemmas.{IsBorder, IsCut, byte_44, byte_58, closed_row, comma}
+use Rattle.text_docs.proofs.RowBorderLemmas.{cut_rows, fit_rows, found_outside, kind_unfit}
+use Rattle.text_docs.proofs.RowBorderLemmas.{row_unfit}
+use Rattle.text_docs.proofs.RowBorderLemmas.{rows_step, skip}
 use Rattle.text_docs.proofs.ListLemmas.{All-back, head_or, tail_of}
-use Rattle.text_docs.proofs.OrderLemmas.{IsIdByte}
-use Rattle.text_docs.proofs.States.{digit_is, no_letter}
-use Rattle.text_docs.proofs.States.{Fit, Piece, append, closed, decimal_piece, each, fit-append}
-use Rattle.text_docs.proofs.States.{fits}
-use Rattle.text_docs.proofs.States.{inside, outside, quoted_piece}
+use Rattle.text_docs.proofs.IdOrderLemmas.{IsIdByte}
+use Rattle.text_docs.proofs.RowStates.{digit_is, no_letter}
+use Rattle.text_docs.proofs.RowStates.{Fit, Piece, append, closed, decimal_piece, each, fit-append}
+use Rattle.text_docs.proofs.RowStates.{fits}
+use Rattle.text_docs.proofs.RowStates.{inside, outside, quoted_piece}
 
 -- ---- the text as a whole
 

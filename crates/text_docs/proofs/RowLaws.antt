@@ -15,12 +15,12 @@ use Rattle.lang_core.proofs.PiecesLemmas.{joined-pieces, some_pieces}
 use Rattle.catalogue.specs.Entries.{Entries, Entry}
 use Rattle.catalogue.proofs.Basics.{first_so, second_so}
 use Rattle.row_docs.specs.Entries.{cells_values}
-use Rattle.row_docs.specs.Valid.{IsKeptCell}
+use Rattle.row_docs.specs.EntriesValid.{IsKeptCell}
 use Rattle.row_docs.specs.declared.kind.Kind.TheVariants.{Site}
 use Rattle.site_docs.specs.Plain.{IsPlainText, last_members, open_items}
 use Rattle.text_docs.specs.Row.{ReadsAsRow, begins_language}
 use Rattle.text_docs.specs.Rows.{IsRowEnd}
-use Rattle.text_docs.proofs.BorderLemmas.{closed_row, rows_step}
+use Rattle.text_docs.proofs.RowBorderLemmas.{closed_row, rows_step}
 use Rattle.text_docs.proofs.ListLemmas.{All-back}
 use Rattle.text_docs.proofs.MessageLemmas.{rows_of_text}
 use Rattle.text_docs.proofs.PartLemmas.{drop_more, escape_unclosed, row_of_place}

@@ -4,7 +4,7 @@ use Rattle.json.specs.Print.{quoted}
 use Rattle.cell_core.specs.SiteName.{IsSiteName}
 use Rattle.catalogue.specs.Entries.{Entries, Entry}
 use Rattle.row_docs.specs.Entries.{cells_values}
-use Rattle.row_docs.specs.Valid.{AreKeptCells}
+use Rattle.row_docs.specs.EntriesValid.{AreKeptCells}
 use Rattle.site_docs.specs.Plain.{IsEnd, last_members, open_items}
 
 -- `{"cells":[`

@@ -16,7 +16,7 @@ pub(crate) struct ToldSummary {
 }
 
 impl Model for ToldSummary {
-    ghost use Rattle.cata_core.specs.Held.{ToldStamps};
+    ghost use Rattle.cata_core.specs.WorldHeld.{ToldStamps};
 
     ghost Value = { ToldStamps };
 
@@ -54,7 +54,7 @@ pub(crate) struct PostedDelta {
 }
 
 impl Model for PostedDelta {
-    ghost use Rattle.cata_core.specs.Held.{PostedCells};
+    ghost use Rattle.cata_core.specs.WorldHeld.{PostedCells};
 
     ghost Value = { PostedCells };
 

@@ -5,7 +5,7 @@ ghost use Rattle.std.specs.FinMap.Entries.{put};
 ghost use Rattle.cell_core.specs.Keyed.{IsMap};
 ghost use Rattle.cell_core.specs.Entry.{EntryKey, key_cmp};
 ghost use Rattle.catalogue.specs.Entries.{Entries};
-ghost use Rattle.site_docs.specs.ReadsAs.{IsSiteText};
+ghost use Rattle.site_docs.specs.Reading.{IsSiteText};
 ghost use Rattle.site_docs.specs.RowsDraft.{HoldsRows};
 ghost use Rattle.site_docs.specs.Sink.{IsLabelRef, IsRowOf, entry_of};
 ghost use Rattle.docs_core.specs.EditedRows.{HoldsEdited, after_key, before_key};

@@ -3,11 +3,11 @@ ghost use Rattle.std.specs.Prelude.{◌≡◌, ◌++◌, ◌∷◌, [], IfOk, Li
 ghost use Rattle.cell_core.specs.Keyed.{IsMap};
 ghost use Rattle.cell_core.specs.Entry.{key_cmp};
 ghost use Rattle.catalogue.specs.Entries.{Entries, IsAboveAll};
-ghost use Rattle.catalogue.specs.Latest.{latest_of};
-ghost use Rattle.map_docs.specs.LangMaps.{Labelled, labels_of};
+ghost use Rattle.catalogue.specs.CatalogueLatest.{latest_of};
+ghost use Rattle.map_docs.specs.Maps.{Labelled, labels_of};
 ghost use Rattle.site_docs.specs.Sink.{entry_of, texts_of};
 ghost use Rattle.docs_core.specs.FoundChanges.{HoldsFound, IsFound, IsNoted, changes_of};
-ghost use Rattle.docs_core.specs.Updated.{AreChanges};
+ghost use Rattle.docs_core.specs.Updating.{AreChanges};
 
 use crate::call::latest_stamp::{LatestStamp, later};
 use crate::call::revised::{Revised, compare, first_revised, is_change};

@@ -1,14 +1,14 @@
 //! Labels put into a site.
 ghost use Rattle.std.specs.Prelude.{◌≡◌, ◌++◌, ℕ, IfErr, IfSome, List, MatchResult, OnErr, OnOk};
 ghost use Rattle.catalogue.specs.Entries.{Entries};
-ghost use Rattle.catalogue.specs.Latest.{latest_of};
+ghost use Rattle.catalogue.specs.CatalogueLatest.{latest_of};
 ghost use Rattle.catalogue.specs.declared.cata_fault.CataFault.TheVariants.{ClockSpent, NoMemory};
-ghost use Rattle.json_docs.specs.Checks.{OrMemory};
+ghost use Rattle.json_docs.specs.FaultChecks.{OrMemory};
 ghost use Rattle.row_docs.specs.Reading.{no_memory};
-ghost use Rattle.site_docs.specs.ReadsAs.{IsSiteText, ReadsAsSite};
-ghost use Rattle.map_docs.specs.LangMaps.{Labelled};
-ghost use Rattle.docs_core.specs.Exchange.{IsImported, RefusesImport};
-ghost use Rattle.docs_core.specs.Imported.{Imports, SpendsImport};
+ghost use Rattle.site_docs.specs.Reading.{IsSiteText, ReadsAsSite};
+ghost use Rattle.map_docs.specs.Maps.{Labelled};
+ghost use Rattle.docs_core.specs.Importing.{IsImported, RefusesImport};
+ghost use Rattle.docs_core.specs.ImportingLabels.{Imports, SpendsImport};
 
 use crate::call::latest_stamp::{LatestStamp, latest_stamp};
 use crate::call::stamped_rows::StampedRows;

@@ -8,7 +8,7 @@ ghost use Rattle.catalogue.specs.Cells.{cells_left};
 ghost use Rattle.cell_core.specs.Entry.{key_cmp};
 ghost use Rattle.catalogue.specs.Entries.{Agree, Entries, IsAboveAll, joined};
 ghost use Rattle.catalogue.specs.Equality.{seen};
-ghost use Rattle.site_docs.specs.ReadsAs.{IsSiteText};
+ghost use Rattle.site_docs.specs.Reading.{IsSiteText};
 ghost use Rattle.site_docs.specs.RowsDraft.{HoldsRows};
 ghost use Rattle.site_docs.specs.Sink.{IsLabelRef, IsRowOf, entry_of};
 ghost use Rattle.docs_core.specs.JoinedRows.{HoldsJoined, IsFirstGreater, IsJoinedTo, IsJoining};

@@ -5,7 +5,7 @@ ghost use Rattle.cell_core.specs.Keyed.{IsMap};
 ghost use Rattle.cata_core.specs.Delta.{Stamps, delta_of, is_missing};
 ghost use Rattle.cell_core.specs.Entry.{key_cmp};
 ghost use Rattle.catalogue.specs.Entries.{Entries};
-ghost use Rattle.site_docs.specs.ReadsAs.{IsDeltaText};
+ghost use Rattle.site_docs.specs.Reading.{IsDeltaText};
 ghost use Rattle.site_docs.specs.RowsDraft.{HoldsRows};
 ghost use Rattle.site_docs.specs.Sink.{IsLabelRef, IsRowOf, entry_of};
 ghost use Rattle.docs_core.specs.LackedRows.{HoldsLacked, IsPassed};

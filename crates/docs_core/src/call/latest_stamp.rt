@@ -3,10 +3,10 @@ ghost use Rattle.std.specs.Prelude.{◌≡◌, MatchResult, None, Some};
 ghost use Rattle.cell_core.specs.Cell.{joined_stamps};
 ghost use Rattle.cell_core.specs.Keyed.{joined_if_both};
 ghost use Rattle.catalogue.specs.Entries.{Entries};
-ghost use Rattle.catalogue.specs.Latest.{latest_of};
-ghost use Rattle.json_docs.specs.Checks.{OrMemory};
+ghost use Rattle.catalogue.specs.CatalogueLatest.{latest_of};
+ghost use Rattle.json_docs.specs.FaultChecks.{OrMemory};
 ghost use Rattle.row_docs.specs.Reading.{IsOfDocument, no_memory};
-ghost use Rattle.site_docs.specs.ReadsAs.{ReadsAsSite, RefusesSite};
+ghost use Rattle.site_docs.specs.Reading.{ReadsAsSite, RefusesSite};
 
 use cell_core::{SiteName, Stamp};
 use json_docs::DocFault;

@@ -1,8 +1,8 @@
 //! Many sites, merged into the first of them.
 ghost use Rattle.std.specs.Prelude.{IfErr, MatchResult, OnOk};
-ghost use Rattle.json_docs.specs.Checks.{OrMemory};
+ghost use Rattle.json_docs.specs.FaultChecks.{OrMemory};
 ghost use Rattle.row_docs.specs.Reading.{no_memory};
-ghost use Rattle.docs_core.specs.Merged.{IsMerged, JoinsOther, RefusesMerge, RefusesOther};
+ghost use Rattle.docs_core.specs.Merging.{IsMerged, JoinsOther, RefusesMerge, RefusesOther};
 
 use crate::call::time_limits::check_times;
 use crate::lines::{Lines, two_documents};

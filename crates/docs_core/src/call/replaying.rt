@@ -2,15 +2,15 @@
 ghost use Rattle.std.specs.Prelude.{◌≡◌, ◌⊎◌, ℕ, List, true, false, IfErr, MatchResult, OnOk};
 ghost use Rattle.std.specs.Io.KnownBytes.{Appends};
 ghost use Rattle.cata_core.specs.declared.play_fault.PlayFault.TheVariants.{NoMemory};
-ghost use Rattle.json_docs.specs.Checks.{OrMemory};
+ghost use Rattle.json_docs.specs.FaultChecks.{OrMemory};
 ghost use Rattle.json_docs.specs.Faults.{of_no_document};
 ghost use Rattle.json_docs.specs.Sinks.{AppendsFront};
 ghost use Rattle.json_docs.specs.Sources.{IsReadFault, ReadsWhole};
 ghost use Rattle.json_docs.specs.declared.fault.DocCause.TheVariants.{WriteFault};
 ghost use Rattle.row_docs.specs.Reading.{IsOfDocument, no_memory};
-ghost use Rattle.script_docs.specs.ScriptReads.{ReadsAsScript, RefusesScript};
+ghost use Rattle.script_docs.specs.Reading.{ReadsAsScript, RefusesScript};
 ghost use Rattle.query_docs.specs.Lines.{lines};
-ghost use Rattle.docs_core.specs.Replays.{IsPlayed, RefusesReplay, RefusesRun, Replays};
+ghost use Rattle.docs_core.specs.Replaying.{IsPlayed, RefusesReplay, RefusesRun, Replays};
 
 use cata_core::{Answers, PlayFault, play};
 use json_docs::{Doc, DocFault, Sink, Source, read_all, write_out};

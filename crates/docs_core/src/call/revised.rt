@@ -4,10 +4,10 @@ ghost use Rattle.std.specs.Prelude.{length, option_map};
 ghost use Rattle.std.specs.Bool.{Decides};
 ghost use Rattle.cell_core.specs.Keyed.{IsMap};
 ghost use Rattle.cell_core.specs.Entry.{key_cmp};
-ghost use Rattle.map_docs.specs.LangMaps.{labels_of};
+ghost use Rattle.map_docs.specs.Maps.{labels_of};
 ghost use Rattle.site_docs.specs.Sink.{texts_of};
 ghost use Rattle.docs_core.specs.Revised.{IsFirstRevised, key_of, new_of, old_of};
-ghost use Rattle.docs_core.specs.Updated.{IsChangeAt};
+ghost use Rattle.docs_core.specs.Updating.{IsChangeAt};
 
 use cell_core::{Key, Label, MessageId};
 use lang_core::Lang;

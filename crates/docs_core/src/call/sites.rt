@@ -3,12 +3,12 @@ ghost use Rattle.std.specs.Prelude.{◌≡◌, ◌⊎◌, option_map, IfErr, IfO
 ghost use Rattle.std.specs.FinMap.Entries.{put};
 ghost use Rattle.cell_core.specs.Stamp.{IsNext, NoNext};
 ghost use Rattle.cell_core.specs.Entry.{key_cmp};
-ghost use Rattle.catalogue.specs.Latest.{latest_of};
+ghost use Rattle.catalogue.specs.CatalogueLatest.{latest_of};
 ghost use Rattle.cata_core.specs.Site.{RefusesEdit, SiteState};
 ghost use Rattle.catalogue.specs.declared.cata_fault.CataFault.TheVariants.{ClockSpent};
-ghost use Rattle.json_docs.specs.Checks.{OrMemory};
+ghost use Rattle.json_docs.specs.FaultChecks.{OrMemory};
 ghost use Rattle.row_docs.specs.Reading.{IsOfDocument, no_memory};
-ghost use Rattle.site_docs.specs.ReadsAs.{ReadsAsSite, RefusesSite};
+ghost use Rattle.site_docs.specs.Reading.{ReadsAsSite, RefusesSite};
 ghost use Rattle.docs_core.specs.Calls.{AreSynced, IsEdited, IsDeltaFor, IsSummarised};
 ghost use Rattle.docs_core.specs.Calls.{IsTaken, RefusesEditing, RefusesDeltaFor, RefusesSync};
 ghost use Rattle.docs_core.specs.Calls.{RefusesTaking};

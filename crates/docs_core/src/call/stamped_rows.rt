@@ -3,11 +3,11 @@ ghost use Rattle.std.specs.Prelude.{◌≡◌, ◌++◌, ◌∷◌, [], ℕ, IfO
 ghost use Rattle.std.specs.declared.cmp.Ordering.TheVariants.{Equal};
 ghost use Rattle.cell_core.specs.declared.stamp.Stamp.{Stamp};
 ghost use Rattle.catalogue.specs.Entries.{Entries, IsAboveAll};
-ghost use Rattle.catalogue.specs.Latest.{latest_of};
-ghost use Rattle.site_docs.specs.ReadsAs.{IsSiteText, ReadsAsSite};
+ghost use Rattle.catalogue.specs.CatalogueLatest.{latest_of};
+ghost use Rattle.site_docs.specs.Reading.{IsSiteText, ReadsAsSite};
 ghost use Rattle.site_docs.specs.WrittenRows.{HasRead, current_of};
-ghost use Rattle.docs_core.specs.Imported.{puts_of};
-ghost use Rattle.docs_core.specs.Made.{Change, Makes};
+ghost use Rattle.docs_core.specs.ImportingLabels.{puts_of};
+ghost use Rattle.docs_core.specs.UpdatingChanges.{Change, Makes};
 ghost use Rattle.docs_core.specs.StampedRows.{HoldsStamped};
 ghost use Rattle.docs_core.specs.SyncedRows.{IsSyncedBefore, IsSyncedTo, order_to};
 

@@ -5,7 +5,7 @@ ghost use Rattle.std.specs.declared.cmp.Ordering.TheVariants.{Equal, Less};
 ghost use Rattle.cell_core.specs.Cell.{AgreeCells, joined_cells};
 ghost use Rattle.catalogue.specs.Entries.{Agree, Entries, IsAboveAll, joined};
 ghost use Rattle.cata_core.specs.Site.{SiteState};
-ghost use Rattle.site_docs.specs.ReadsAs.{IsSiteText, ReadsAsSite};
+ghost use Rattle.site_docs.specs.Reading.{IsSiteText, ReadsAsSite};
 ghost use Rattle.site_docs.specs.RowsDraft.{HoldsRows};
 ghost use Rattle.site_docs.specs.Sink.{IsLabelRef, IsRowOf, entry_of, texts_of};
 ghost use Rattle.site_docs.specs.WrittenRows.{HasRead, IsRowText, current_of, left_in};

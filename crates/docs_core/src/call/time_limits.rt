@@ -2,9 +2,9 @@
 ghost use Rattle.std.specs.Prelude.{◌≡◌, ◌≢◌, ◌^◌, ◌<◌, length, IfErr, IfSome, MatchOption};
 ghost use Rattle.std.specs.Prelude.{MatchResult, OnOk, Some};
 ghost use Rattle.catalogue.specs.declared.cata_fault.CataFault.TheVariants.{NotForMe};
-ghost use Rattle.json_docs.specs.Checks.{OrMemory};
+ghost use Rattle.json_docs.specs.FaultChecks.{OrMemory};
 ghost use Rattle.row_docs.specs.Reading.{IsOfDocument, no_memory};
-ghost use Rattle.site_docs.specs.ReadsAs.{RefusesSite};
+ghost use Rattle.site_docs.specs.Reading.{RefusesSite};
 ghost use Rattle.docs_core.specs.TimeLimits.{AreSyncedUntil, IsTakenUntil};
 ghost use Rattle.site_docs.specs.RowsInTime.{AreInTime, IsFirstAhead};
 ghost use Rattle.docs_core.specs.TimeLimits.{ReadsInTime, RefusesDeltaUntil};

@@ -4,7 +4,7 @@ use Rattle.front_core.specs.Preferences.{field_text}
 use Rattle.front_core.specs.TagFilter.{IsTagFilter, RefusesTagFilter}
 use Rattle.front_c.specs.Question.{field_of}
 use Rattle.front_c.specs.Reporting.{ReportsAnswer, ReportsEither}
-use Rattle.front_c.proofs.AskedLemmas.{field_as, report_as}
+use Rattle.front_c.proofs.ReportingAskedLemmas.{field_as, report_as}
 use Rattle.front_c.proofs.sw_filter.Goals as goal
 
 pub returns-in-Some : goal.returns-in-Some

@@ -4,7 +4,7 @@ use Rattle.front_core.specs.Preferences.{field_text}
 use Rattle.front_core.specs.TagPick.{IsPickedTag, RefusesPick}
 use Rattle.front_c.specs.Question.{default_of, lookup_field_of}
 use Rattle.front_c.specs.Reporting.{ReportsEither, ReportsPicked}
-use Rattle.front_c.proofs.AskedLemmas.{field_as}
+use Rattle.front_c.proofs.ReportingAskedLemmas.{field_as}
 use Rattle.front_c.proofs.sw_pick.Goals as goal
 
 pub returns-in-Some : goal.returns-in-Some

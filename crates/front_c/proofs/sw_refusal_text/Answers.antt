@@ -1,7 +1,7 @@
 use Rattle.std.proofs.Common.{◌≡◌, rules, of_z, to_z, w32}
 use Rattle.std.specs.Prelude.{option_map}
 use Rattle.front_core.specs.Refusal.{refusal_of}
-use Rattle.front_c.proofs.AskedLemmas.{line_as}
+use Rattle.front_c.proofs.ReportingAskedLemmas.{line_as}
 use Rattle.front_c.proofs.sw_refusal_text.Goals as goal
 
 pub returns-in-Some : goal.returns-in-Some

@@ -4,7 +4,7 @@ use Rattle.front_core.specs.Ask.{AnswersBundle}
 use Rattle.front_c.specs.Calls.{ReportsQuestion}
 use Rattle.front_c.specs.Handles.{site_of}
 use Rattle.front_c.specs.Question.{default_of, lookup_field_of}
-use Rattle.front_c.proofs.AskedLemmas.{asked_as, field_as}
+use Rattle.front_c.proofs.ReportingAskedLemmas.{asked_as, field_as}
 use Rattle.front_c.proofs.sw_site_bundle.Goals as goal
 
 pub returns-in-Some-clause-answer : goal.returns-in-Some-clause-answer

@@ -3,7 +3,7 @@ use Rattle.front_core.specs.Ask.{IsNoMemory}
 use Rattle.front_core.specs.Translate.{AreChangeLines}
 use Rattle.front_c.specs.Handles.{site_of}
 use Rattle.front_c.specs.Reporting.{ReportsAnswer, ReportsEither}
-use Rattle.front_c.proofs.AskedLemmas.{open_as, report_as}
+use Rattle.front_c.proofs.ReportingAskedLemmas.{open_as, report_as}
 use Rattle.front_c.proofs.sw_site_changes.Goals as goal
 
 -- What changed from the one open site to the other is reported.

@@ -2,7 +2,7 @@ use Rattle.std.proofs.Common.{◌≡◌, rules, of_z, to_z, w32}
 use Rattle.front_core.specs.Exchange.{IsDelta, RefusesDelta}
 use Rattle.front_c.specs.Handles.{site_of}
 use Rattle.front_c.specs.Reporting.{ReportsAnswer, ReportsEither}
-use Rattle.front_c.proofs.AskedLemmas.{open_as, report_as}
+use Rattle.front_c.proofs.ReportingAskedLemmas.{open_as, report_as}
 use Rattle.front_c.proofs.sw_site_delta.Goals as goal
 
 pub returns-in-Some-clause-answer : goal.returns-in-Some-clause-answer

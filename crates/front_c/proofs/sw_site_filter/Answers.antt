@@ -4,7 +4,7 @@ use Rattle.front_core.specs.Ask.{AnswersFilter, IsFilter, RefusesFilter}
 use Rattle.front_c.specs.Calls.{ReportsQuestion}
 use Rattle.front_c.specs.Handles.{site_of}
 use Rattle.front_c.specs.Question.{field_of}
-use Rattle.front_c.proofs.AskedLemmas.{asked_as, field_as}
+use Rattle.front_c.proofs.ReportingAskedLemmas.{asked_as, field_as}
 use Rattle.front_c.proofs.sw_site_filter.Goals as goal
 
 pub returns-in-Some-clause-answer : goal.returns-in-Some-clause-answer

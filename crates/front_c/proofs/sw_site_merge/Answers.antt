@@ -1,7 +1,7 @@
 use Rattle.std.proofs.Common.{◌≡◌, Some, of_z, rules, to_z, w32}
 use Rattle.front_core.specs.OpenSite.{IsMerged, LeavesMerge, RefusesMerge}
 use Rattle.front_c.specs.Handles.{site_of}
-use Rattle.front_c.proofs.AskedLemmas.{edited_as}
+use Rattle.front_c.proofs.ReportingAskedLemmas.{edited_as}
 use Rattle.front_c.proofs.sw_site_merge.Goals as goal
 
 pub returns-in-Some-open-clause-merged : goal.returns-in-Some-open-clause-merged

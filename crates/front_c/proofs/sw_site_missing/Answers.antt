@@ -1,7 +1,7 @@
 use Rattle.std.proofs.Common.{◌≡◌, rules, of_z, to_z, w32}
 use Rattle.front_core.specs.Translate.{AnswersMissing, IsMissing, RefusesMissing}
 use Rattle.front_c.specs.Handles.{site_of}
-use Rattle.front_c.proofs.AskedLemmas.{asked_as}
+use Rattle.front_c.proofs.ReportingAskedLemmas.{asked_as}
 use Rattle.front_c.proofs.sw_site_missing.Goals as goal
 
 pub returns-clause-answer : goal.returns-clause-answer

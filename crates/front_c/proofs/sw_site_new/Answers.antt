@@ -1,7 +1,7 @@
 use Rattle.std.proofs.Common.{◌≡◌, rules, of_z, to_z, w32}
 use Rattle.front_core.specs.OpenSite.{OrNoMemory, IsNewSite, RefusesNewSite}
 use Rattle.front_c.specs.Handles.{site_of}
-use Rattle.front_c.proofs.AskedLemmas.{held_as}
+use Rattle.front_c.proofs.ReportingAskedLemmas.{held_as}
 use Rattle.front_c.proofs.sw_site_new.Goals as goal
 
 pub returns : goal.returns

@@ -1,8 +1,8 @@
 use Rattle.std.proofs.Common.{◌≡◌, inl, rules, of_z, to_z, w32}
-use Rattle.site_docs.specs.ReadsAs.{ReadsAsSite}
+use Rattle.site_docs.specs.Reading.{ReadsAsSite}
 use Rattle.front_core.specs.Ask.{RefusesDocument}
 use Rattle.front_c.specs.Handles.{site_of}
-use Rattle.front_c.proofs.AskedLemmas.{held_as}
+use Rattle.front_c.proofs.ReportingAskedLemmas.{held_as}
 use Rattle.front_c.proofs.sw_site_open.Goals as goal
 
 pub returns : goal.returns

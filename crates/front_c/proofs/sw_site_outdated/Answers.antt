@@ -1,7 +1,7 @@
 use Rattle.std.proofs.Common.{rules}
 use Rattle.front_core.specs.Translate.{AnswersOutdated, IsOutdated, RefusesOutdated}
 use Rattle.front_c.specs.Handles.{site_of}
-use Rattle.front_c.proofs.AskedLemmas.{asked_as}
+use Rattle.front_c.proofs.ReportingAskedLemmas.{asked_as}
 use Rattle.front_c.proofs.sw_site_outdated.Goals as goal
 
 pub returns-clause-answer : goal.returns-clause-answer

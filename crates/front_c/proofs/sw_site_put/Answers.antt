@@ -1,7 +1,7 @@
 use Rattle.std.proofs.Common.{◌≡◌, rules, of_z, to_z, w32}
 use Rattle.front_core.specs.OpenSite.{IsPutInto, RefusesPutInto}
 use Rattle.front_c.specs.Handles.{site_of}
-use Rattle.front_c.proofs.AskedLemmas.{kept_as}
+use Rattle.front_c.proofs.ReportingAskedLemmas.{kept_as}
 use Rattle.front_c.proofs.sw_site_put.Goals as goal
 
 pub returns-in-Some : goal.returns-in-Some

@@ -1,6 +1,6 @@
 use Rattle.std.proofs.Common.{◌≡◌, rules, of_z, to_z, w32}
 use Rattle.front_c.specs.Handles.{site_of}
-use Rattle.front_c.proofs.AskedLemmas.{shared_as}
+use Rattle.front_c.proofs.ReportingAskedLemmas.{shared_as}
 use Rattle.front_c.proofs.sw_site_share.Goals as goal
 
 pub returns-in-Ok-clause-shared : goal.returns-in-Ok-clause-shared

@@ -1,7 +1,7 @@
 use Rattle.std.proofs.Common.{rules}
 use Rattle.front_core.specs.OpenSite.{IsTaken, LeavesTake, RefusesTake}
 use Rattle.front_c.specs.Handles.{site_of}
-use Rattle.front_c.proofs.AskedLemmas.{edited_as}
+use Rattle.front_c.proofs.ReportingAskedLemmas.{edited_as}
 use Rattle.front_c.proofs.sw_site_take.Goals as goal
 
 pub returns-in-Some : goal.returns-in-Some

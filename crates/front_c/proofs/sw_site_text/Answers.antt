@@ -5,7 +5,7 @@ use Rattle.front_c.specs.Calls.{ReportsOpen}
 use Rattle.front_c.specs.Handles.{site_of}
 use Rattle.front_c.specs.Question.{default_of, lookup_field_of}
 use Rattle.front_c.specs.Reporting.{ReportsEither, ReportsLabelText}
-use Rattle.front_c.proofs.AskedLemmas.{field_as, open_as}
+use Rattle.front_c.proofs.ReportingAskedLemmas.{field_as, open_as}
 use Rattle.front_c.proofs.sw_site_text.Goals as goal
 
 -- The text at the place is reported of the label that the lookup asked finds.

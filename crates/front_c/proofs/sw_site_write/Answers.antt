@@ -3,7 +3,7 @@ use Rattle.std.specs.Prelude.{Ok}
 use Rattle.front_core.specs.Exchange.{ShowsView}
 use Rattle.front_core.specs.declared.exchange.View.TheVariants.{Document}
 use Rattle.front_c.specs.Handles.{site_of}
-use Rattle.front_c.proofs.AskedLemmas.{asked_as, shown_as}
+use Rattle.front_c.proofs.ReportingAskedLemmas.{asked_as, shown_as}
 use Rattle.front_c.proofs.sw_site_write.Goals as goal
 
 pub returns-clause-answer : goal.returns-clause-answer

@@ -4,7 +4,7 @@ use Rattle.front_core.specs.Preferences.{field_text}
 use Rattle.front_c.specs.Calls.{ReportsQuestion}
 use Rattle.front_c.specs.Question.{field_of}
 use Rattle.front_c.specs.Reporting.{ReportsAnswer, ReportsRead}
-use Rattle.front_c.proofs.AskedLemmas.{field_as, report_as, some_as, written_as}
+use Rattle.front_c.proofs.ReportingAskedLemmas.{field_as, report_as, some_as, written_as}
 use Rattle.front_c.proofs.sw_text_filter.Goals as goal
 
 -- The answer over the text is that over the site which it is written for.

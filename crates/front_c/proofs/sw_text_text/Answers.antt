@@ -4,7 +4,7 @@ use Rattle.front_core.specs.Preferences.{field_text}
 use Rattle.front_c.specs.Calls.{ReportsOpen}
 use Rattle.front_c.specs.Question.{default_of, lookup_field_of}
 use Rattle.front_c.specs.Reporting.{ReportsEither, ReportsLabelText, ReportsRead}
-use Rattle.front_c.proofs.AskedLemmas.{field_as, text_as}
+use Rattle.front_c.proofs.ReportingAskedLemmas.{field_as, text_as}
 use Rattle.front_c.proofs.sw_text_text.Goals as goal
 
 -- The text that is reported is of the site which the document is written for.

@@ -4,7 +4,7 @@ ghost use Rattle.std.specs.Option.{option_copied_mut};
 ghost use Rattle.std.specs.Borrow.{LendsIf, sem};
 ghost use Rattle.std_heap.specs.declared.Global.{Global as GlobalValue};
 ghost use denote.RawPtr.{null_ptr};
-ghost use Rattle.front_c.specs.Held.{Share, share_code, site_held};
+ghost use Rattle.front_c.specs.SiteHandleHeld.{Share, share_code, site_held};
 
 use crate::handles::raw_box::RawBox;
 use front_core::OpenSite;
@@ -37,7 +37,7 @@ unsafe impl Send for SiteHandle {}
 
 impl SiteHandle {
     ghost use Rattle.front_c.specs.Handles.{LendsSite, with_site};
-    ghost use Rattle.front_c.specs.Held.{share_row};
+    ghost use Rattle.front_c.specs.SiteHandleHeld.{share_row};
     ghost use Rattle.front_c.specs.contracts.handles.site_handle.SiteHandle.{the_row};
 
     /// An open handle of this share of a site, or none where memory ends.

@@ -5,7 +5,7 @@ ghost use Rattle.json.specs.Token.{begin_object};
 ghost use Rattle.json.specs.Json.{read_key};
 ghost use Rattle.serde_json.specs.Data.{object};
 ghost use Rattle.serde_json.specs.Read.{read};
-ghost use Rattle.json_docs.specs.MembersRead.{NoObject};
+ghost use Rattle.json_docs.specs.ObjectMembersRead.{NoObject};
 ghost use Rattle.json_docs.specs.declared.fault.DocCause.TheVariants.{NotJson};
 
 use crate::fault::DocCause;

@@ -2,7 +2,7 @@
 ghost use Rattle.std.specs.Prelude.{◌≡◌, IfSome, map, option_map};
 ghost use Rattle.json.specs.Value.{value_view};
 ghost use Rattle.serde_json.specs.Find.{as_str};
-ghost use Rattle.json_docs.specs.Reads.{AreRead, IsRead, seen};
+ghost use Rattle.json_docs.specs.ScanningReads.{AreRead, IsRead, seen};
 ghost use Rattle.json_docs.specs.Parts.{items_in, u32_in, u64_in};
 
 use crate::json_text::numbers::whole_number;

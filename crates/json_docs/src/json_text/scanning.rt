@@ -3,10 +3,10 @@ ghost use Rattle.std.specs.Prelude.{◌≡◌, ◌<◌, None, length, true, IfOk
 ghost use Rattle.json.specs.Json.{value};
 ghost use Rattle.json.specs.Reads.{token_of};
 ghost use Rattle.json.specs.Value.{value_view};
-ghost use Rattle.json_docs.specs.Checks.{OrMemory};
+ghost use Rattle.json_docs.specs.FaultChecks.{OrMemory};
 ghost use Rattle.json_docs.specs.Numbers.{are_in_range, is_token_in_range};
-ghost use Rattle.json_docs.specs.Reads.{IsRead, Reads, seen};
-ghost use Rattle.json_docs.specs.MembersRead.{is_scalar};
+ghost use Rattle.json_docs.specs.ScanningReads.{IsRead, Reads, seen};
+ghost use Rattle.json_docs.specs.ObjectMembersRead.{is_scalar};
 ghost use Rattle.json_docs.specs.declared.fault.DocCause.TheVariants.{NoMemory, NotJson};
 
 use crate::fault::DocCause;

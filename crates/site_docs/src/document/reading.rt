@@ -1,10 +1,10 @@
 //! Documents, read.
 ghost use Rattle.std.specs.Prelude.{MatchResult};
-ghost use Rattle.json_docs.specs.Checks.{OrMemory};
+ghost use Rattle.json_docs.specs.FaultChecks.{OrMemory};
 ghost use Rattle.row_docs.specs.Reading.{IsOfDocument};
-ghost use Rattle.site_docs.specs.ReadsAs.{ReadsAsDelta, ReadsAsSite, ReadsAsSummary};
+ghost use Rattle.site_docs.specs.Reading.{ReadsAsDelta, ReadsAsSite, ReadsAsSummary};
 ghost use Rattle.row_docs.specs.Reading.{no_memory};
-ghost use Rattle.site_docs.specs.ReadsAs.{RefusesDelta, RefusesSite, RefusesSummary};
+ghost use Rattle.site_docs.specs.Reading.{RefusesDelta, RefusesSite, RefusesSummary};
 
 use crate::document::site_documents::{delta_from, site_from, summary_from};
 use cata_core::{Delta, Site, Summary};

@@ -1,7 +1,7 @@
 //! The rows of a document, shown to a sink as they are read.
 ghost use Rattle.std.specs.Prelude.{◌≡◌, ◌++◌, ◌∷◌, [], IfSome, None, OnOk, option_map};
 ghost use Rattle.std.specs.Bool.{Decides};
-ghost use Rattle.json_docs.specs.Checks.{OrMemory};
+ghost use Rattle.json_docs.specs.FaultChecks.{OrMemory};
 ghost use Rattle.json_docs.specs.declared.fault.DocCause.TheVariants.{NoMemory};
 ghost use Rattle.catalogue.specs.Entries.{Entries, IsAboveAll};
 ghost use Rattle.row_docs.specs.Fields.{IsAfter};

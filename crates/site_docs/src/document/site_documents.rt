@@ -1,14 +1,14 @@
 //! Documents that name a site, read.
 ghost use Rattle.std.specs.Prelude.{◌≡◌, Some, MatchResult, IfOk, IfErr};
 ghost use Rattle.serde_json.specs.Data.{Data};
-ghost use Rattle.json_docs.specs.Checks.{AllPass, AreJson, FirstFails, IsRefusal, OrMemory};
+ghost use Rattle.json_docs.specs.FaultChecks.{AllPass, AreJson, FirstFails, IsRefusal, OrMemory};
 ghost use Rattle.json_docs.specs.declared.fault.DocCause.TheVariants.{NoMemory};
 ghost use Rattle.catalogue.specs.Entries.{Entries};
 ghost use Rattle.row_docs.specs.Headers.{IsSubject, rows_in, version_of};
 ghost use Rattle.row_docs.specs.Rising.{MakesEntries, cell_checks, entry_in};
-ghost use Rattle.site_docs.specs.ReadsAs.{ReadsAsDelta, ReadsAsSite, ReadsAsSummary, RefusesDelta};
-ghost use Rattle.site_docs.specs.ReadsAs.{RefusesSite, RefusesSummary};
-ghost use Rattle.row_docs.specs.Rows.{site_in};
+ghost use Rattle.site_docs.specs.Reading.{ReadsAsDelta, ReadsAsSite, ReadsAsSummary, RefusesDelta};
+ghost use Rattle.site_docs.specs.Reading.{RefusesSite, RefusesSummary};
+ghost use Rattle.row_docs.specs.ShapesRows.{site_in};
 ghost use Rattle.site_docs.specs.SiteDocuments.{document_checks, named_in, subject_checks};
 ghost use Rattle.row_docs.specs.declared.version.Version.TheVariants.{One, Two};
 

@@ -6,7 +6,7 @@ ghost use Rattle.cell_core.specs.Entry.{key_cmp};
 ghost use Rattle.catalogue.specs.Entries.{Entries};
 ghost use Rattle.row_docs.specs.Kinds.{kind_text, subject_of};
 ghost use Rattle.site_docs.specs.Plain.{IsEnd, IsPlainText, last_members};
-ghost use Rattle.site_docs.specs.ReadsAs.{ReadsAsSite};
+ghost use Rattle.site_docs.specs.Reading.{ReadsAsSite};
 
 use crate::plain::rows::next_cells;
 use crate::sink::CellSink;

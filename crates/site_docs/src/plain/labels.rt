@@ -4,7 +4,7 @@ ghost use Rattle.json.specs.Print.{quoted};
 ghost use Rattle.serde_json.specs.Written.{compact_text};
 ghost use Rattle.cell_core.specs.Label.{IsLabel};
 ghost use Rattle.row_docs.specs.Fields.{IsLabelText};
-ghost use Rattle.row_docs.specs.Values.{label_value, texts_value};
+ghost use Rattle.row_docs.specs.EntriesValues.{label_value, texts_value};
 ghost use Rattle.site_docs.specs.Sink.{IsLabelRef, texts_of};
 
 use crate::sink::LabelRef;

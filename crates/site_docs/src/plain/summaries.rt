@@ -2,10 +2,10 @@
 ghost use Rattle.std.specs.Prelude.{◌≡◌, IfSome, MatchResult};
 ghost use Rattle.cata_core.specs.Delta.{summary_of};
 ghost use Rattle.cata_core.specs.Site.{SiteState};
-ghost use Rattle.json_docs.specs.Checks.{OrMemory};
+ghost use Rattle.json_docs.specs.FaultChecks.{OrMemory};
 ghost use Rattle.json_docs.specs.declared.fault.DocCause.TheVariants.{NoMemory};
 ghost use Rattle.row_docs.specs.Reading.{IsOfDocument, no_memory};
-ghost use Rattle.site_docs.specs.ReadsAs.{IsSummaryText, ReadsAsSite, RefusesSite};
+ghost use Rattle.site_docs.specs.Reading.{IsSummaryText, ReadsAsSite, RefusesSite};
 
 use crate::document::site_documents::show_members;
 use crate::document::writing::write_summary;

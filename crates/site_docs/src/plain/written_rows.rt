@@ -7,7 +7,7 @@ ghost use Rattle.row_docs.specs.Entries.{entry_value};
 ghost use Rattle.row_docs.specs.Fields.{IsAfter};
 ghost use Rattle.site_docs.specs.Plain.{IsEnd, last_members};
 ghost use Rattle.site_docs.specs.PlainRows.{IsSpelled, key_in};
-ghost use Rattle.site_docs.specs.ReadsAs.{ReadsAsSite};
+ghost use Rattle.site_docs.specs.Reading.{ReadsAsSite};
 ghost use Rattle.site_docs.specs.WrittenRows.{HasRead, IsRead, IsRowText, current_of, entry_at};
 ghost use Rattle.site_docs.specs.WrittenRows.{entry_of, left_in};
 

@@ -4,8 +4,8 @@ use Rattle.cata_core.specs.Delta.{is_missing}
 use Rattle.cell_core.specs.Entry.{EntryKey}
 use Rattle.catalogue.specs.Entries.{Entries, IsAboveAll}
 use Rattle.cata_core.specs.Summary.{stamps_of}
-use Rattle.cata_core.proofs.MissingCellsLemmas.{AreMissingSoFar, sent_above, missing_more}
-use Rattle.cata_core.proofs.MissingCellsLemmas.{missing_same}
+use Rattle.cata_core.proofs.DeltaMissingLemmas.{AreMissingSoFar, sent_above, missing_more}
+use Rattle.cata_core.proofs.DeltaMissingLemmas.{missing_same}
 use Rattle.cata_core.proofs.SummaryListsLemmas.{not_greater_self}
 use Rattle.cata_core.proofs.delta.missing_cells.Goals as goal
 

@@ -1,6 +1,6 @@
 use Rattle.catalogue.specs.Cells.{cells_left}
 use Rattle.cata_core.specs.Summary.{stamps_of}
-use Rattle.cata_core.proofs.MissingCellsLemmas.{AreMissingSoFar}
+use Rattle.cata_core.proofs.DeltaMissingLemmas.{AreMissingSoFar}
 use Rattle.cata_core.proofs.delta.missing_cells.Given as goal
 
 abbrev pub invariant-loop-id : goal.invariant-loop-id

@@ -3,8 +3,8 @@ use Rattle.cell_core.specs.Cell.{joined_stamps}
 use Rattle.cell_core.specs.Keyed.{joined_if_both}
 use Rattle.catalogue.specs.Cells.{cells_left}
 use Rattle.catalogue.specs.Entries.{Entries}
-use Rattle.catalogue.specs.Latest.{latest_of}
-use Rattle.catalogue.proofs.LatestLemmas.{latest_next}
+use Rattle.catalogue.specs.CatalogueLatest.{latest_of}
+use Rattle.catalogue.proofs.CatalogueLatestLemmas.{latest_next}
 use Rattle.cata_core.proofs.latest.latest_of.Goals as goal
 
 pub loop-cell-preserved : goal.loop-cell-preserved

@@ -1,4 +1,4 @@
-use Rattle.cata_core.proofs.DeliveriesLemmas.{delivery_merges, delivery_leaves_others}
+use Rattle.cata_core.proofs.RunsDeliveriesLemmas.{delivery_merges, delivery_leaves_others}
 use Rattle.cata_core.proofs.laws.a_delivery_acts_as_a_merge.Goals as goal
 
 pub returns-clause-taker : goal.returns-clause-taker

@@ -1,4 +1,4 @@
-use Rattle.cata_core.proofs.RepeatsLemmas.{sync_repeats}
+use Rattle.cata_core.proofs.SyncingRepeatsLemmas.{sync_repeats}
 use Rattle.cata_core.proofs.laws.a_sync_can_be_repeated.Goals as goal
 
 pub returns : goal.returns

@@ -1,5 +1,5 @@
 use Rattle.cata_core.specs.Delta.{summary_of}
-use Rattle.cata_core.proofs.HeldRisesLemmas.{told_serves}
+use Rattle.cata_core.proofs.WorldHeldRisesLemmas.{told_serves}
 use Rattle.cata_core.proofs.SummaryLemmas.{has_own, has_risen}
 use Rattle.cata_core.proofs.laws.a_told_summary_serves.Goals as goal
 

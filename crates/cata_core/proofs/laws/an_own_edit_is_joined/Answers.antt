@@ -1,4 +1,4 @@
-use Rattle.cata_core.proofs.OwnEditsLemmas.{own_agrees, own_joins, own_rises, own_taken}
+use Rattle.cata_core.proofs.SiteOwnEditsLemmas.{own_agrees, own_joins, own_rises, own_taken}
 use Rattle.cata_core.proofs.laws.an_own_edit_is_joined.Goals as goal
 
 pub returns-clause-agree : goal.returns-clause-agree

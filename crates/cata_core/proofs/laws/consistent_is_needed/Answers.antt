@@ -1,4 +1,4 @@
-use Rattle.cata_core.proofs.NeededLemmas.{settled_inconsistent, unequal_sites}
+use Rattle.cata_core.proofs.RunsNeededLemmas.{settled_inconsistent, unequal_sites}
 use Rattle.cata_core.proofs.laws.consistent_is_needed.Goals as goal
 
 pub returns-clause-settled : goal.returns-clause-settled

@@ -1,4 +1,4 @@
-use Rattle.cata_core.proofs.LeastDeltasLemmas.{delta_empty}
+use Rattle.cata_core.proofs.DeltaLeastLemmas.{delta_empty}
 use Rattle.cata_core.proofs.laws.delta_is_empty.Goals as goal
 
 pub returns : goal.returns

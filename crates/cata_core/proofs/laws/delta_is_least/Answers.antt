@@ -1,4 +1,4 @@
-use Rattle.cata_core.proofs.LeastDeltasLemmas.{delta_least}
+use Rattle.cata_core.proofs.DeltaLeastLemmas.{delta_least}
 use Rattle.cata_core.proofs.laws.delta_is_least.Goals as goal
 
 pub returns : goal.returns

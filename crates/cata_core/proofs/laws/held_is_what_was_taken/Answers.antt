@@ -1,5 +1,5 @@
-use Rattle.cata_core.proofs.SettledRunsLemmas.{sound_is_settled}
-use Rattle.cata_core.proofs.TakenAndHeldLemmas.{held_is_catalogue}
+use Rattle.cata_core.proofs.RunsSettledLemmas.{sound_is_settled}
+use Rattle.cata_core.proofs.RunsTakenAndHeldLemmas.{held_is_catalogue}
 use Rattle.cata_core.proofs.laws.held_is_what_was_taken.Goals as goal
 
 pub returns-clause-consistent : goal.returns-clause-consistent

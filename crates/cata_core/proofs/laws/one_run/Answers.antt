@@ -1,7 +1,7 @@
 use Rattle.std.proofs.Common.{[]}
 use Rattle.catalogue.specs.Edits.{catalogue_of}
-use Rattle.cata_core.specs.Taken.{taken}
-use Rattle.cata_core.specs.Held.{held}
+use Rattle.cata_core.specs.RunsTaken.{taken}
+use Rattle.cata_core.specs.WorldHeld.{held}
 use Rattle.cata_core.proofs.AnswerLemmas.{one_by}
 use Rattle.cata_core.proofs.laws.one_run.Goals as goal
 

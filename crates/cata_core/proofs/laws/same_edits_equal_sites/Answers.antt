@@ -1,9 +1,9 @@
 use Rattle.std.proofs.Common.{ap}
-use Rattle.cata_core.specs.Taken.{taken}
-use Rattle.cata_core.specs.Held.{held}
+use Rattle.cata_core.specs.RunsTaken.{taken}
+use Rattle.cata_core.specs.WorldHeld.{held}
 use Rattle.cata_core.specs.Answer.{cells_answer}
 use Rattle.catalogue.proofs.CatalogueLemmas.{same_catalogue}
-use Rattle.cata_core.proofs.EqualSitesLemmas.{equal_sites, answer_alike}
+use Rattle.cata_core.proofs.SiteEqualLemmas.{equal_sites, answer_alike}
 use Rattle.cata_core.proofs.laws.same_edits_equal_sites.Goals as goal
 
 pub returns-clause-held : goal.returns-clause-held

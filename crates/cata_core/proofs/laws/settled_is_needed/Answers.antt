@@ -1,4 +1,4 @@
-use Rattle.cata_core.proofs.NeededLemmas.{two_catalogues, best_not_found}
+use Rattle.cata_core.proofs.RunsNeededLemmas.{two_catalogues, best_not_found}
 use Rattle.cata_core.proofs.laws.settled_is_needed.Goals as goal
 
 pub returns-clause-catalogues : goal.returns-clause-catalogues

@@ -1,4 +1,4 @@
-use Rattle.catalogue.proofs.JoinedLatestLemmas.{latest_joined}
+use Rattle.catalogue.proofs.CatalogueJoinedLatestLemmas.{latest_joined}
 use Rattle.cata_core.proofs.LatestTakenLemmas.{latest_taken}
 use Rattle.cata_core.proofs.laws.the_latest_held_is_the_latest_taken.Goals as goal
 

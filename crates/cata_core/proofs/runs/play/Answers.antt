@@ -3,11 +3,11 @@ use Rattle.std.proofs.lemmas.Result.{err_from_is_err_and}
 use Rattle.catalogue.specs.Entries.{Entries}
 use Rattle.cata_core.specs.Answer.{AreHeldAnswers, AreAnswers}
 use Rattle.cata_core.specs.World.{at_sites}
-use Rattle.cata_core.proofs.MachineLemmas.{first_fault}
-use Rattle.cata_core.proofs.TakenAndHeldLemmas.{consistent_no_clash}
+use Rattle.cata_core.proofs.RunsMachineLemmas.{first_fault}
+use Rattle.cata_core.proofs.RunsTakenAndHeldLemmas.{consistent_no_clash}
 use Rattle.cata_core.proofs.WorldLemmas.{one_more_empty}
-use Rattle.cata_core.proofs.PlayingLemmas.{played_on, refused_now, none_is_faulty, answers_held}
-use Rattle.cata_core.proofs.PlayingLemmas.{answers_consistent, answers_undelivered}
+use Rattle.cata_core.proofs.RunsPlayingLemmas.{played_on, refused_now, none_is_faulty, answers_held}
+use Rattle.cata_core.proofs.RunsPlayingLemmas.{answers_consistent, answers_undelivered}
 use Rattle.cata_core.proofs.runs.play.Goals as goal
 
 pub loop-preserved : goal.loop-preserved

@@ -1,6 +1,6 @@
 use Rattle.std.proofs.Common.{◌≡◌, [], length}
 use Rattle.cata_core.specs.World.{at_sites}
-use Rattle.cata_core.proofs.PlayingLemmas.{IsPlayed}
+use Rattle.cata_core.proofs.RunsPlayingLemmas.{IsPlayed}
 use Rattle.cata_core.proofs.runs.play.Given as goal
 
 abbrev pub invariant-loop : goal.invariant-loop

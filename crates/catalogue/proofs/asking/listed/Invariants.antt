@@ -1,6 +1,6 @@
 use Rattle.std.proofs.Common.{◌≡◌, ◌++◌}
 use Rattle.catalogue.specs.Labels.{labels_left}
-use Rattle.catalogue.specs.LentEntries.{labelled_of}
+use Rattle.catalogue.specs.EntriesBorrowed.{labelled_of}
 use Rattle.catalogue.proofs.asking.listed.Given as goal
 
 abbrev pub invariant-loop-pair : goal.invariant-loop-pair

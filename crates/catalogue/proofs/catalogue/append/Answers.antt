@@ -1,8 +1,8 @@
 use Rattle.std.proofs.Common.{sym, ap, ◌∙◌, subst}
 use Rattle.std.proofs.lemmas.Result.{on_ok_weaker, on_err_weaker}
-use Rattle.catalogue.specs.Flat.{flat, inner_of}
-use Rattle.catalogue.specs.Nested.{IsCatalogue}
-use Rattle.catalogue.proofs.NestedCataloguesLemmas.{either_way, IsCatalogue-put, flat-put, put_back}
+use Rattle.catalogue.specs.CatalogueFlat.{flat, inner_of}
+use Rattle.catalogue.specs.CatalogueNested.{IsCatalogue}
+use Rattle.catalogue.proofs.CatalogueNestedLemmas.{either_way, IsCatalogue-put, flat-put, put_back}
 use Rattle.catalogue.proofs.catalogue.append.Goals as goal
 
 pub returns-in-Some-clause-nested : goal.returns-in-Some-clause-nested

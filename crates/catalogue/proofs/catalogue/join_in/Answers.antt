@@ -9,12 +9,12 @@ use Rattle.cell_core.specs.Keyed.{AgreeIfBoth, joined_at}
 use Rattle.catalogue.specs.declared.cell_refusal.CellRefusal.TheVariants.{NoMemory}
 use Rattle.catalogue.specs.CellRefusal.{IsCellRefusal}
 use Rattle.cell_core.specs.Entry.{text_cmp}
-use Rattle.catalogue.specs.Flat.{flat, inner_of}
-use Rattle.catalogue.specs.Nested.{Inner, IsCatalogue}
-use Rattle.catalogue.specs.Settled.{IsSettledBy}
-use Rattle.catalogue.proofs.NestedCataloguesLemmas.{either_way, IsCatalogue-put, put_back}
+use Rattle.catalogue.specs.CatalogueFlat.{flat, inner_of}
+use Rattle.catalogue.specs.CatalogueNested.{Inner, IsCatalogue}
+use Rattle.catalogue.specs.CatalogueSettled.{IsSettledBy}
+use Rattle.catalogue.proofs.CatalogueNestedLemmas.{either_way, IsCatalogue-put, put_back}
 use Rattle.catalogue.proofs.CellRefusalLemmas.{refused_new, unsettled}
-use Rattle.catalogue.proofs.WrittenLemmas.{found_inner, joined_inner, no_cell}
+use Rattle.catalogue.proofs.CatalogueWrittenLemmas.{found_inner, joined_inner, no_cell}
 use Rattle.catalogue.proofs.catalogue.join_in.Goals as goal
 
 pub returns-in-Some-clause-nested : goal.returns-in-Some-clause-nested

@@ -2,7 +2,7 @@ use Rattle.std.proofs.Common.{sym, ◌∙◌, ap}
 use Rattle.std.specs.Cmp.Lexicographic.{nat_list_cmp_total}
 use Rattle.std.specs.FinMap.Entries.{put}
 use Rattle.cell_core.specs.Entry.{text_cmp}
-use Rattle.catalogue.proofs.NestedCataloguesLemmas.{put_same, text_exact}
+use Rattle.catalogue.proofs.CatalogueNestedLemmas.{put_same, text_exact}
 use Rattle.catalogue.proofs.catalogue.join_lang.Goals as goal
 
 pub returns-in-Err-clause-err : goal.returns-in-Err-clause-err

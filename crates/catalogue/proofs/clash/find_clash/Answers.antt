@@ -2,8 +2,8 @@ use Rattle.std.proofs.Common.{◌+◌, length, sym, subst, arith}
 use Rattle.std.proofs.lemmas.Option.{slice_get_within}
 use Rattle.cell_core.specs.Iter.{entries_left}
 use Rattle.cell_core.specs.Entry.{key_cmp}
-use Rattle.catalogue.specs.Flat.{flat}
-use Rattle.catalogue.specs.Nested.{Nested}
+use Rattle.catalogue.specs.CatalogueFlat.{flat}
+use Rattle.catalogue.specs.CatalogueNested.{Nested}
 use Rattle.catalogue.proofs.ClashWalksLemmas.{IsAgreed, agreed_with, agreed_without, clash_with}
 use Rattle.catalogue.proofs.ClashWalksLemmas.{front_fits, agreed_catalogues}
 use Rattle.catalogue.proofs.clash.find_clash.Goals as goal

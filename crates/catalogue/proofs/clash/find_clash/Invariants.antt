@@ -1,6 +1,6 @@
 use Rattle.cell_core.specs.Iter.{entries_left}
 use Rattle.cell_core.specs.Entry.{key_cmp}
-use Rattle.catalogue.specs.Flat.{flat}
+use Rattle.catalogue.specs.CatalogueFlat.{flat}
 use Rattle.catalogue.proofs.ClashWalksLemmas.{IsAgreed}
 use Rattle.catalogue.proofs.clash.find_clash.Given as goal
 

@@ -1,4 +1,4 @@
-use Rattle.catalogue.proofs.NestedCataloguesLemmas.{agree_both_ways}
+use Rattle.catalogue.proofs.CatalogueNestedLemmas.{agree_both_ways}
 use Rattle.catalogue.proofs.clash.first_clash.Goals as goal
 
 pub returns-then-agrees : goal.returns-then-agrees

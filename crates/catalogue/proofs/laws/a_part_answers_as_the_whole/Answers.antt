@@ -1,4 +1,4 @@
-use Rattle.catalogue.proofs.PartsLemmas.{part_filters, part_looks_up, part_looks_up_by}
+use Rattle.catalogue.proofs.CataloguePartsLemmas.{part_filters, part_looks_up, part_looks_up_by}
 use Rattle.catalogue.proofs.laws.a_part_answers_as_the_whole.Goals as goal
 
 pub returns-clause-filter : goal.returns-clause-filter

@@ -1,4 +1,4 @@
-use Rattle.catalogue.proofs.PartsLemmas.{parts_agree, parts_join}
+use Rattle.catalogue.proofs.CataloguePartsLemmas.{parts_agree, parts_join}
 use Rattle.catalogue.proofs.laws.a_part_of_a_join_is_the_join_of_parts.Goals as goal
 
 pub returns-clause-agree : goal.returns-clause-agree

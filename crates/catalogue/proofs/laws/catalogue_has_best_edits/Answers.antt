@@ -1,6 +1,6 @@
 use Rattle.std.proofs.Common.{sym, subst, refl}
 use Rattle.std.specs.Prelude.{IsSome}
-use Rattle.catalogue.proofs.MembersLemmas.{in_from_Contains}
+use Rattle.catalogue.proofs.CatalogueMembersLemmas.{in_from_Contains}
 use Rattle.catalogue.proofs.CatalogueLemmas.{catalogue_of-IsMap, found_best, best_found, has_cell}
 use Rattle.catalogue.proofs.laws.catalogue_has_best_edits.Goals as goal
 

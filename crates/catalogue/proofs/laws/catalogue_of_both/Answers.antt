@@ -1,4 +1,4 @@
-use Rattle.catalogue.proofs.SettlingLemmas.{catalogue_of_both}
+use Rattle.catalogue.proofs.CatalogueSettledLemmas.{catalogue_of_both}
 use Rattle.catalogue.proofs.laws.catalogue_of_both.Goals as goal
 
 pub returns : goal.returns

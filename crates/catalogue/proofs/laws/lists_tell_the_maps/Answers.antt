@@ -1,4 +1,4 @@
-use Rattle.catalogue.proofs.NestedCataloguesLemmas.{agree_both_ways, flat-joined, same_catalogue}
+use Rattle.catalogue.proofs.CatalogueNestedLemmas.{agree_both_ways, flat-joined, same_catalogue}
 use Rattle.catalogue.proofs.laws.lists_tell_the_maps.Goals as goal
 
 pub returns-clause-one : goal.returns-clause-one

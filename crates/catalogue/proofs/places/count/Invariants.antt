@@ -1,5 +1,5 @@
 use Rattle.cell_core.specs.Iter.{entries_left}
-use Rattle.catalogue.proofs.NestedPlacesLemmas.{IsCounted}
+use Rattle.catalogue.proofs.PlacesNestedLemmas.{IsCounted}
 use Rattle.catalogue.proofs.places.count.Given as goal
 
 abbrev pub invariant-loop-cells : goal.invariant-loop-cells

@@ -2,9 +2,9 @@ use Rattle.std.proofs.Common.{◌≡◌, ◌+◌, ◌-◌, ◌<◌, length, sym,
 use Rattle.std.specs.Prelude.{slice_get}
 use Rattle.std.specs.Option.{option_map}
 use Rattle.cell_core.specs.Iter.{entries_left}
-use Rattle.catalogue.specs.Flat.{flat}
-use Rattle.catalogue.specs.Nested.{Nested}
-use Rattle.catalogue.proofs.NestedPlacesLemmas.{with_outer, place_within, place_behind}
+use Rattle.catalogue.specs.CatalogueFlat.{flat}
+use Rattle.catalogue.specs.CatalogueNested.{Nested}
+use Rattle.catalogue.proofs.PlacesNestedLemmas.{with_outer, place_within, place_behind}
 use Rattle.catalogue.proofs.places.entry.Goals as goal
 
 pub returns-in-Some-nth : goal.returns-in-Some-nth

@@ -1,7 +1,7 @@
 use Rattle.std.proofs.Common.{◌≡◌}
 use Rattle.std.specs.Prelude.{slice_get}
 use Rattle.cell_core.specs.Iter.{entries_left}
-use Rattle.catalogue.specs.Flat.{flat}
+use Rattle.catalogue.specs.CatalogueFlat.{flat}
 use Rattle.catalogue.proofs.places.entry.Given as goal
 
 abbrev pub invariant-loop-id : goal.invariant-loop-id

@@ -1,10 +1,10 @@
 use Rattle.std.proofs.Common.{ℕ, ◌-◌, List, length, Bor, sym, ap, ◌∙◌}
 use Rattle.std.specs.Prelude.{slice_get}
 use Rattle.std.specs.Option.{option_map}
-use Rattle.catalogue.specs.Flat.{flat}
+use Rattle.catalogue.specs.CatalogueFlat.{flat}
 use Rattle.cell_core.specs.declared.cell.Cell.{Cell}
-use Rattle.catalogue.specs.Nested.{Nested}
-use Rattle.catalogue.proofs.LastKeysLemmas.{last_of_all, no_last, last_is_some}
+use Rattle.catalogue.specs.CatalogueNested.{Nested}
+use Rattle.catalogue.proofs.PlacesLastKeysLemmas.{last_of_all, no_last, last_is_some}
 use Rattle.catalogue.proofs.places.last.Goals as goal
 
 pub returns-in_err-id : goal.returns-in_err-id

@@ -1,10 +1,10 @@
 use Rattle.std.proofs.Common.{◌+◌, sym, ◌∙◌, ap, subst, arith}
 use Rattle.cell_core.specs.Iter.{entries_left}
 use Rattle.cell_core.specs.Entry.{EntryKey, text_cmp}
-use Rattle.catalogue.proofs.KeyPlacesLemmas.{place_of-le}
-use Rattle.catalogue.proofs.NestedPlacesLemmas.{IsInFront, in_front_less, in_front_same}
-use Rattle.catalogue.proofs.NestedPlacesLemmas.{in_front_next}
-use Rattle.catalogue.proofs.NestedPlacesLemmas.{in_front_fits}
+use Rattle.catalogue.proofs.PlacesKeyLemmas.{place_of-le}
+use Rattle.catalogue.proofs.PlacesNestedLemmas.{IsInFront, in_front_less, in_front_same}
+use Rattle.catalogue.proofs.PlacesNestedLemmas.{in_front_next}
+use Rattle.catalogue.proofs.PlacesNestedLemmas.{in_front_fits}
 use Rattle.catalogue.proofs.places.place.Goals as goal
 
 pub returns-in-Less : goal.returns-in-Less

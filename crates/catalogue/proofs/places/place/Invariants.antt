@@ -1,5 +1,5 @@
 use Rattle.cell_core.specs.Iter.{entries_left}
-use Rattle.catalogue.proofs.NestedPlacesLemmas.{IsInFront}
+use Rattle.catalogue.proofs.PlacesNestedLemmas.{IsInFront}
 use Rattle.catalogue.proofs.places.place.Given as goal
 
 abbrev pub invariant-loop-key : goal.invariant-loop-key

@@ -3,10 +3,11 @@ use Rattle.std.proofs.Common.{true≢false}
 use Rattle.std.specs.FinMap.Entries.{find}
 use Rattle.cell_core.specs.Keyed.{IsMap, AgreeIfBoth}
 use Rattle.cell_core.specs.Chunks.{all_of}
-use Rattle.cell_core.proofs.AbsentLemmas.{same_right}
+use Rattle.cell_core.proofs.JoinAbsentLemmas.{same_right}
 use Rattle.cell_core.proofs.ChunkLemmas.{chunk_map}
-use Rattle.cell_core.proofs.RunLemmas.{take_run, split_run, length_rest, map_of_take, map_of_rest}
-use Rattle.cell_core.proofs.RunLemmas.{same_in_chunk, run_agrees, agree_parts}
+use Rattle.cell_core.proofs.ChunkJoinsRunLemmas.{take_run, split_run, length_rest, map_of_take}
+use Rattle.cell_core.proofs.ChunkJoinsRunLemmas.{map_of_rest}
+use Rattle.cell_core.proofs.ChunkJoinsRunLemmas.{same_in_chunk, run_agrees, agree_parts}
 use Rattle.cell_core.proofs.chunk_joins.agree_all_of.Goals as goal
 
 pub first_run-at-requires-clause-pairs : goal.first_run-at-requires-clause-pairs

@@ -3,7 +3,7 @@ use Rattle.std.specs.FinMap.Entries.{find}
 use Rattle.cell_core.specs.Keyed.{IsMap, AgreeIfBoth}
 use Rattle.cell_core.specs.Chunks.{all_of}
 use Rattle.cell_core.proofs.ChunkLemmas.{all_of-split, chunk_map}
-use Rattle.cell_core.proofs.RunLemmas.{all_of_more, run_agrees, agree_parts}
+use Rattle.cell_core.proofs.ChunkJoinsRunLemmas.{all_of_more, run_agrees, agree_parts}
 use Rattle.cell_core.proofs.chunk_joins.agree_chunks.Goals as goal
 
 pub agree_all_of-requires-clause-pairs : goal.agree_all_of-requires-clause-pairs

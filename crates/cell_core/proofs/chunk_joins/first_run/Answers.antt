@@ -1,8 +1,8 @@
 use Rattle.std.proofs.Common.{◌+◌, ◌<◌, Vec, Global, length, arith, sym, subst}
 use Rattle.cell_core.specs.Chunks.{IsChunkFor}
-use Rattle.cell_core.proofs.PlaceLemmas.{place_of-le}
+use Rattle.cell_core.proofs.KeyedPlacesLemmas.{place_of-le}
 use Rattle.cell_core.proofs.ChunkLemmas.{filled_at}
-use Rattle.cell_core.proofs.FirstRunLemmas.{last_run, bounded_run, bounded_some}
+use Rattle.cell_core.proofs.ChunkJoinsFirstRunLemmas.{last_run, bounded_run, bounded_some}
 use Rattle.cell_core.proofs.chunk_joins.first_run.Goals as goal
 
 pub returns-then-at-chunks-clause-fits : goal.returns-then-at-chunks-clause-fits

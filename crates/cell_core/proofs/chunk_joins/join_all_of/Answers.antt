@@ -2,9 +2,10 @@ use Rattle.std.proofs.Common.{◌+◌, ◌-◌, [], length, take, drop, arith, s
 use Rattle.cell_core.specs.Keyed.{IsMap, IsJoinedWith}
 use Rattle.cell_core.specs.Chunks.{all_of}
 use Rattle.cell_core.proofs.Basics.{on_err_always}
-use Rattle.cell_core.proofs.RunLemmas.{take_run, split_rest, length_rest, map_of_take, map_of_rest}
-use Rattle.cell_core.proofs.RunLemmas.{joined_none_yet, joined_further, agree_further}
-use Rattle.cell_core.proofs.RunLemmas.{stopped_further}
+use Rattle.cell_core.proofs.ChunkJoinsRunLemmas.{take_run, split_rest, length_rest, map_of_take}
+use Rattle.cell_core.proofs.ChunkJoinsRunLemmas.{map_of_rest}
+use Rattle.cell_core.proofs.ChunkJoinsRunLemmas.{joined_none_yet, joined_further, agree_further}
+use Rattle.cell_core.proofs.ChunkJoinsRunLemmas.{stopped_further}
 use Rattle.cell_core.proofs.chunk_joins.join_all_of.Goals as goal
 
 pub loop-from-init : goal.loop-from-init

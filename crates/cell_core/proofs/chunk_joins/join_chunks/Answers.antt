@@ -3,8 +3,9 @@ use Rattle.cell_core.specs.Keyed.{IsMap, IsJoinedWith}
 use Rattle.cell_core.specs.Chunks.{all_of}
 use Rattle.cell_core.proofs.Basics.{on_err_always}
 use Rattle.cell_core.proofs.ChunkLemmas.{all_of-split, chunk_map, map_front}
-use Rattle.cell_core.proofs.RunLemmas.{all_of_more, joined_none_yet, joined_further, agree_further}
-use Rattle.cell_core.proofs.RunLemmas.{stopped_further}
+use Rattle.cell_core.proofs.ChunkJoinsRunLemmas.{all_of_more, joined_none_yet, joined_further}
+use Rattle.cell_core.proofs.ChunkJoinsRunLemmas.{agree_further}
+use Rattle.cell_core.proofs.ChunkJoinsRunLemmas.{stopped_further}
 use Rattle.cell_core.proofs.chunk_joins.join_chunks.Goals as goal
 
 pub loop-pairs-init : goal.loop-pairs-init

@@ -4,9 +4,11 @@ use Rattle.cell_core.specs.Keyed.{IsMap, IsJoinedWith}
 use Rattle.cell_core.specs.Chunks.{all_of, IsRunFor}
 use Rattle.cell_core.proofs.Basics.{on_err_always}
 use Rattle.cell_core.proofs.ChunkLemmas.{chunk_map}
-use Rattle.cell_core.proofs.RunLemmas.{map_of_take, chunk_agrees, length_with, run_chunked}
-use Rattle.cell_core.proofs.RunLemmas.{run_joined, stopped_chunked, run_stopped, joined_none_yet}
-use Rattle.cell_core.proofs.RunLemmas.{agree_further, stopped_further}
+use Rattle.cell_core.proofs.ChunkJoinsRunLemmas.{map_of_take, chunk_agrees, length_with}
+use Rattle.cell_core.proofs.ChunkJoinsRunLemmas.{run_chunked}
+use Rattle.cell_core.proofs.ChunkJoinsRunLemmas.{run_joined, stopped_chunked, run_stopped}
+use Rattle.cell_core.proofs.ChunkJoinsRunLemmas.{joined_none_yet}
+use Rattle.cell_core.proofs.ChunkJoinsRunLemmas.{agree_further, stopped_further}
 use Rattle.cell_core.proofs.chunk_joins.join_first_run.Goals as goal
 
 pub join_pairs-requires-clause-pairs : goal.join_pairs-requires-clause-pairs

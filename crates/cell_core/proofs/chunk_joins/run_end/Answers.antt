@@ -1,7 +1,7 @@
 use Rattle.std.proofs.Common.{◌-◌, length, arith, sym, ◌∙◌}
 use Rattle.cell_core.proofs.Basics.{is_greater}
-use Rattle.cell_core.proofs.PlaceLemmas.{place_of-le}
-use Rattle.cell_core.proofs.WalkLemmas.{place_after}
+use Rattle.cell_core.proofs.KeyedPlacesLemmas.{place_of-le}
+use Rattle.cell_core.proofs.KeyedWalkLemmas.{place_after}
 use Rattle.cell_core.proofs.chunk_joins.run_end.Goals as goal
 
 pub returns-then-is_gt : goal.returns-then-is_gt

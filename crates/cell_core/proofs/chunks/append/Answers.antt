@@ -2,7 +2,7 @@ use Rattle.std.proofs.Common.{[], ◌∷◌, sym, ap, ◌∙◌, subst, refl, ar
 use Rattle.std.specs.FinMap.Entries.{is_sorted-put}
 use Rattle.cell_core.specs.Keyed.{IsMap}
 use Rattle.cell_core.specs.Chunks.{all_of}
-use Rattle.cell_core.proofs.PlaceLemmas.{push_as_put}
+use Rattle.cell_core.proofs.KeyedPlacesLemmas.{push_as_put}
 use Rattle.cell_core.proofs.chunks.append.Goals as goal
 
 pub returns-in-Ok-clause-ok : goal.returns-in-Ok-clause-ok

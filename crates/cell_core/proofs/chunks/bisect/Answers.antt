@@ -1,8 +1,8 @@
 use Rattle.std.proofs.Common.{◌≡◌, ◌+◌, ◌-◌, ◌/◌, ◌<◌, length, arith, sym, ap, ◌∙◌}
 use Rattle.std.specs.Ordering.{is_gt}
 use Rattle.std.proofs.lemmas.List.{get_or_default}
-use Rattle.cell_core.proofs.PlaceLemmas.{place_of-le}
-use Rattle.cell_core.proofs.WalkLemmas.{place_upto, place_after, place_found_in_map, gap_found}
+use Rattle.cell_core.proofs.KeyedPlacesLemmas.{place_of-le}
+use Rattle.cell_core.proofs.KeyedWalkLemmas.{place_upto, place_after, place_found_in_map, gap_found}
 use Rattle.cell_core.proofs.chunks.bisect.Goals as goal
 
 pub loop-low-init : goal.loop-low-init

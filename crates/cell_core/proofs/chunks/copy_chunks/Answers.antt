@@ -2,8 +2,8 @@ use Rattle.std.proofs.Common.{◌≡◌, ◌<◌, ◌∷◌, [], ◌++◌, Vec, 
 use Rattle.std.proofs.Common.{append-nil}
 use Rattle.cell_core.specs.Chunks.{all_of, AllFilled}
 use Rattle.cell_core.proofs.ChunkLemmas.{filled_at}
-use Rattle.cell_core.proofs.RunLemmas.{all_of-append, all_of_more}
-use Rattle.cell_core.proofs.AppendLemmas.{filled_push}
+use Rattle.cell_core.proofs.ChunkJoinsRunLemmas.{all_of-append, all_of_more}
+use Rattle.cell_core.proofs.ChunksAppendLemmas.{filled_push}
 use Rattle.cell_core.proofs.chunks.copy_chunks.Goals as goal
 
 -- The copies have the entries of the chunks before this one, and none is empty: the copy of this

@@ -1,8 +1,8 @@
 use Rattle.std.proofs.Common.{◌≡◌, ◌-◌, length, get_or, arith, sym, ap, ◌∙◌}
 use Rattle.std.specs.Ordering.{is_gt}
 use Rattle.cell_core.proofs.Basics.{is_greater}
-use Rattle.cell_core.proofs.AboveLemmas.{above_last}
-use Rattle.cell_core.proofs.AppendLemmas.{gap_behind, at_last, some_of_last}
+use Rattle.cell_core.proofs.KeyedAboveLemmas.{above_last}
+use Rattle.cell_core.proofs.ChunksAppendLemmas.{gap_behind, at_last, some_of_last}
 use Rattle.cell_core.proofs.chunks.is_above_all.Goals as goal
 
 pub overflow_sub-len : goal.overflow_sub-len

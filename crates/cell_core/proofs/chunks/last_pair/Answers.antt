@@ -1,5 +1,5 @@
 use Rattle.std.proofs.Common.{◌-◌, length, slice_get, ap, sym, ◌∙◌}
-use Rattle.cell_core.proofs.AppendLemmas.{last_of_chunks, none_of_chunks}
+use Rattle.cell_core.proofs.ChunksAppendLemmas.{last_of_chunks, none_of_chunks}
 use Rattle.cell_core.proofs.chunks.last_pair.Goals as goal
 
 pub returns-in-Some : goal.returns-in-Some

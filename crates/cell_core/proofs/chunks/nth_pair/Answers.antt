@@ -2,7 +2,7 @@ use Rattle.std.proofs.Common.{◌≡◌, ◌-◌, ◌<◌, ◌≤◌, ◌++◌, 
 use Rattle.std.proofs.Common.{arith, sym, ap, ◌∙◌, add-one}
 use Rattle.cell_core.specs.Chunks.{all_of}
 use Rattle.cell_core.proofs.ChunkLemmas.{all_of-drop}
-use Rattle.cell_core.proofs.AppendLemmas.{nth_here, nth_behind}
+use Rattle.cell_core.proofs.ChunksAppendLemmas.{nth_here, nth_behind}
 use Rattle.cell_core.proofs.chunks.nth_pair.Goals as goal
 
 pub returns-then-left-len : goal.returns-then-left-len

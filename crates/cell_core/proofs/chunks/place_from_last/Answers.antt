@@ -1,7 +1,7 @@
 use Rattle.std.proofs.Common.{◌≡◌, ◌-◌, length, get_or, arith, sym, ap, ◌∙◌, subst}
 use Rattle.cell_core.specs.Chunks.{IsPlaceIn}
-use Rattle.cell_core.proofs.AppendLemmas.{at_last, some_of_last, gap_behind, none_found}
-use Rattle.cell_core.proofs.AppendLemmas.{place_at_last}
+use Rattle.cell_core.proofs.ChunksAppendLemmas.{at_last, some_of_last, gap_behind, none_found}
+use Rattle.cell_core.proofs.ChunksAppendLemmas.{place_at_last}
 use Rattle.cell_core.proofs.chunks.place_from_last.Goals as goal
 
 pub overflow_sub-len : goal.overflow_sub-len

@@ -1,6 +1,6 @@
 use Rattle.std.proofs.Common.{◌≡◌, [], ◌∷◌, ◌++◌, length, arith, sym, ap, ◌∙◌, subst}
 use Rattle.cell_core.specs.Chunks.{all_of, AllFilled}
-use Rattle.cell_core.proofs.AppendLemmas.{pushed_chunk, filled_push}
+use Rattle.cell_core.proofs.ChunksAppendLemmas.{pushed_chunk, filled_push}
 use Rattle.cell_core.proofs.chunks.push_chunk.Goals as goal
 
 pub returns-clause-filled : goal.returns-clause-filled

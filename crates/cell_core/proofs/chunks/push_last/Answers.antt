@@ -3,7 +3,7 @@ use Rattle.std.proofs.Common.{subst}
 use Rattle.std.proofs.lemmas.Result.{IfErr-weaker, on_ok_weaker}
 use Rattle.cell_core.specs.Chunks.{all_of}
 use Rattle.cell_core.proofs.ChunkLemmas.{filled_at, filled-set, same-chunk}
-use Rattle.cell_core.proofs.AppendLemmas.{pushed_last}
+use Rattle.cell_core.proofs.ChunksAppendLemmas.{pushed_last}
 use Rattle.cell_core.proofs.chunks.push_last.Goals as goal
 
 pub returns-clause-filled : goal.returns-clause-filled

@@ -1,7 +1,7 @@
 use Rattle.std.proofs.Common.{sym, ap, ◌∙◌}
 use Rattle.std.specs.List.{insert}
 use Rattle.std.specs.FinMap.Entries.{put}
-use Rattle.cell_core.proofs.PlaceLemmas.{set_as_put, insert_as_put}
+use Rattle.cell_core.proofs.KeyedPlacesLemmas.{set_as_put, insert_as_put}
 use Rattle.cell_core.proofs.chunks.put_in.Goals as goal
 
 pub returns-in-Ok-clause-ok : goal.returns-in-Ok-clause-ok

@@ -1,4 +1,4 @@
-use Rattle.cell_core.proofs.PaddedNameLemmas.{cmp-padded_name}
+use Rattle.cell_core.proofs.SiteNamePaddedLemmas.{cmp-padded_name}
 use Rattle.cell_core.proofs.laws.padded_names_keep_order.Goals as goal
 
 pub returns : goal.returns

@@ -1,10 +1,10 @@
 use Rattle.std.proofs.Common.{subst, ◌+◌, ◌≤◌, get_or, take}
-use Rattle.cell_core.specs.Missing.{IsCommonJoined}
-use Rattle.cell_core.specs.Places.{place_of}
+use Rattle.cell_core.specs.InterleaveMissing.{IsCommonJoined}
+use Rattle.cell_core.specs.KeyedPlaces.{place_of}
 use Rattle.cell_core.proofs.Basics.{on_err_always}
-use Rattle.cell_core.proofs.WalkLemmas.{on_after_place, on_after_gap}
-use Rattle.cell_core.proofs.CommonLemmas.{may_join, stopped_between, stopped_in_join}
-use Rattle.cell_core.proofs.CommonLemmas.{common_one_more, missing_one_more}
+use Rattle.cell_core.proofs.KeyedWalkLemmas.{on_after_place, on_after_gap}
+use Rattle.cell_core.proofs.PairsCommonLemmas.{may_join, stopped_between, stopped_in_join}
+use Rattle.cell_core.proofs.PairsCommonLemmas.{common_one_more, missing_one_more}
 use Rattle.cell_core.proofs.pairs.join_common.Goals as goal
 use Rattle.cell_core.proofs.pairs.join_common.Goals.{in-Ok+in_ok-join-in-Ok}
 use Rattle.cell_core.proofs.pairs.join_common.Goals.{in-Err+in_ok-copy-in-Err+in_ok-copy-in-Err-2+in_ok-push_in_room-in-Err}

@@ -1,8 +1,8 @@
 use Rattle.std.proofs.Common.{refl}
 use Rattle.std.proofs.lemmas.Result.{IfOk-weaker}
 use Rattle.clap.specs.Words.{app_of}
-use Rattle.command_core.specs.Words.{IsCommand}
-use Rattle.command_core.proofs.AppLemmas.{added}
+use Rattle.command_core.specs.ArgumentsWords.{IsCommand}
+use Rattle.command_core.proofs.ArgumentsLemmas.{added}
 use Rattle.command_core.proofs.arguments.with_edit.Goals as goal
 
 pub returns : goal.returns

@@ -1,5 +1,5 @@
 use Rattle.std.proofs.lemmas.Result.{IfOk-weaker}
-use Rattle.command_core.proofs.AppLemmas.{added, preferred}
+use Rattle.command_core.proofs.ArgumentsLemmas.{added, preferred}
 use Rattle.command_core.proofs.commands.pick.Goals as goal
 
 pub returns : goal.returns

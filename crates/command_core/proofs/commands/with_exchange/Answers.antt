@@ -1,5 +1,5 @@
 use Rattle.std.proofs.Common.{Ok, refl}
-use Rattle.command_core.proofs.AppLemmas.{with_command}
+use Rattle.command_core.proofs.ArgumentsLemmas.{with_command}
 use Rattle.command_core.proofs.commands.with_exchange.Goals as goal
 
 -- The program has these seven subcommands after those that it had: each was added to what the one

@@ -1,5 +1,5 @@
 use Rattle.std.proofs.Common.{Ok, refl}
-use Rattle.command_core.proofs.AppLemmas.{with_command}
+use Rattle.command_core.proofs.ArgumentsLemmas.{with_command}
 use Rattle.command_core.proofs.commands.with_questions.Goals as goal
 
 pub returns : goal.returns

@@ -1,5 +1,5 @@
 use Rattle.std.proofs.Common.{rules}
-use Rattle.command_core.specs.Streams.{writes}
+use Rattle.command_core.specs.OutputStreams.{writes}
 use Rattle.command_core.proofs.FaultLineLemmas.{printed, reported}
 use Rattle.command_core.proofs.fault_line.report.Goals as goal
 

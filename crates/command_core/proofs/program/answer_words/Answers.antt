@@ -1,5 +1,5 @@
 use Rattle.std.proofs.Common.{refl}
-use Rattle.command_core.specs.Streams.{reads, streams, writes}
+use Rattle.command_core.specs.OutputStreams.{reads, streams, writes}
 use Rattle.command_core.proofs.ProgramLemmas.{reported}
 use Rattle.command_core.proofs.program.answer_words.Goals as goal
 

@@ -1,7 +1,7 @@
 use Rattle.std.proofs.Common.{◌∙◌, ap}
 use Rattle.std.proofs.lemmas.Result.{IfOk-weaker}
 use Rattle.clap.specs.Words.{App}
-use Rattle.command_core.specs.Words.{exchange_app, labels_app, questions_app, sites_app}
+use Rattle.command_core.specs.ArgumentsWords.{exchange_app, labels_app, questions_app, sites_app}
 use Rattle.command_core.proofs.program.lexicat.Goals as goal
 
 pub returns : goal.returns

@@ -2,9 +2,9 @@ use Rattle.std.proofs.Common.{rules, ◌∙◌, List, ap, map, subst}
 use Rattle.std.proofs.lemmas.Result.{IfOk-weaker}
 use Rattle.clap.specs.Words.{App, FailsBy, Text, fault_of, is_simple, is_simple_and_free}
 use Rattle.clap.specs.Words.{subcommand_of}
-use Rattle.command_core.proofs.AppLemmas.{lexicat_free, lexicat_simple}
+use Rattle.command_core.proofs.ArgumentsLemmas.{lexicat_free, lexicat_simple}
 use Rattle.command_core.proofs.ProgramLemmas.{no_memory}
-use Rattle.command_core.specs.Words.{lexicat_app}
+use Rattle.command_core.specs.ArgumentsWords.{lexicat_app}
 use Rattle.command_core.proofs.program.matches_of.Goals as goal
 
 pub returns-in_err-lexicat : goal.returns-in_err-lexicat

@@ -1,4 +1,4 @@
-use Rattle.command_core.specs.Streams.{reads}
+use Rattle.command_core.specs.OutputStreams.{reads}
 use Rattle.command_core.proofs.QuestionsLemmas.{input_asked}
 use Rattle.command_core.proofs.questions.ask.Goals as goal
 

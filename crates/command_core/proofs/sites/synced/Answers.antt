@@ -1,6 +1,6 @@
 use Rattle.std.proofs.Common.{inr, refl}
 use Rattle.std.proofs.lemmas.Result.{err_from_is_err_and}
-use Rattle.map_docs.proofs.LangMapLabelsLemmas.{else_by}
+use Rattle.map_docs.proofs.MapsLabelsLemmas.{else_by}
 use Rattle.command_core.proofs.sites.synced.Goals as goal
 
 pub returns : goal.returns

@@ -1,5 +1,5 @@
 use Rattle.std.proofs.Common.{ap, ◌∙◌}
-use Rattle.command_core.specs.FieldWords.{is_given}
+use Rattle.command_core.specs.TaskFieldWords.{is_given}
 use Rattle.command_core.proofs.task.is_given.Goals as goal
 
 pub returns : goal.returns

@@ -6,11 +6,11 @@ use Rattle.front_core.specs.Ask.{AnswersBundle, AnswersFilter, AnswersLookup, Is
 use Rattle.front_core.specs.Ask.{RefusesFilter, RefusesLookup}
 use Rattle.front_core.specs.Translate.{AnswersMissing, AnswersOutdated, IsMissing, IsOutdated}
 use Rattle.front_core.specs.Translate.{RefusesMissing, RefusesOutdated}
-use Rattle.command_core.specs.Acts.{Performs}
-use Rattle.command_core.specs.Reading.{RefusesNothing}
-use Rattle.command_core.specs.Streams.{reads, streams, writes}
-use Rattle.command_core.specs.Values.{task_values}
-use Rattle.command_core.proofs.ActsLemmas.{treated}
+use Rattle.command_core.specs.TaskActs.{Performs}
+use Rattle.command_core.specs.TaskReading.{RefusesNothing}
+use Rattle.command_core.specs.OutputStreams.{reads, streams, writes}
+use Rattle.command_core.specs.TaskValues.{task_values}
+use Rattle.command_core.proofs.TaskActsLemmas.{treated}
 use Rattle.command_core.proofs.QuestionsLemmas.{asks_as}
 use Rattle.command_core.proofs.task.perform.Goals as goal
 use Rattle.command_core.proofs.task.perform.Goals.{in-Pick, in-PickAll, in-New, in-Edit}

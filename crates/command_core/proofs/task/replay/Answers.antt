@@ -1,6 +1,6 @@
 use Rattle.std.proofs.Common.{refl}
-use Rattle.command_core.specs.Streams.{reads, streams, writes}
-use Rattle.command_core.proofs.ActsLemmas.{not_replayed, replayed}
+use Rattle.command_core.specs.OutputStreams.{reads, streams, writes}
+use Rattle.command_core.proofs.TaskActsLemmas.{not_replayed, replayed}
 use Rattle.command_core.proofs.task.replay.Goals as goal
 
 pub returns-in-Ok : goal.returns-in-Ok

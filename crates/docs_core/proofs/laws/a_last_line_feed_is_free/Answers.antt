@@ -1,9 +1,9 @@
 use Rattle.site_docs.specs.SiteDocuments.{IsDeltaDocument, IsSiteDocument, IsSummaryDocument}
 use Rattle.site_docs.specs.SiteDocuments.{delta_checks, site_checks, summary_checks}
-use Rattle.map_docs.specs.LangMapLabels.{ReadsAsLangMaps}
-use Rattle.map_docs.specs.LangMapChecks.{langmaps_checks}
-use Rattle.script_docs.specs.ScriptReads.{IsScriptDocument, script_checks}
-use Rattle.docs_core.proofs.FreeLineFeed.{free}
+use Rattle.map_docs.specs.MapsLabels.{ReadsAsLangMaps}
+use Rattle.map_docs.specs.LabelsChecks.{langmaps_checks}
+use Rattle.script_docs.specs.Reading.{IsScriptDocument, script_checks}
+use Rattle.docs_core.proofs.LinesFreeLineFeed.{free}
 use Rattle.docs_core.proofs.laws.a_last_line_feed_is_free.Goals as goal
 
 pub returns-clause-site : goal.returns-clause-site

@@ -1,4 +1,4 @@
-use Rattle.docs_core.proofs.MergeLaws.{two_merged, two_refusals, two_synced}
+use Rattle.docs_core.proofs.MergingLaws.{two_merged, two_refusals, two_synced}
 use Rattle.docs_core.proofs.laws.a_merge_of_two_is_a_sync.Goals as goal
 
 pub returns-clause-until : goal.returns-clause-until

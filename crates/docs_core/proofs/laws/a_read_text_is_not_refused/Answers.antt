@@ -1,11 +1,11 @@
 use Rattle.site_docs.specs.SiteDocuments.{IsDeltaDocument, IsSiteDocument, IsSummaryDocument}
 use Rattle.site_docs.specs.SiteDocuments.{delta_checks, site_checks, summary_checks}
 use Rattle.row_docs.specs.declared.kind.Kind.TheVariants.{Delta, Site, Summary}
-use Rattle.map_docs.specs.LangMapChecks.{langmaps_checks}
-use Rattle.map_docs.specs.LangMapLabels.{ReadsAsLangMaps}
-use Rattle.script_docs.specs.ScriptReads.{IsScriptDocument, script_checks}
-use Rattle.docs_core.proofs.OneRefusal.{cells_named, langmaps, read_not_refused, scripts}
-use Rattle.docs_core.proofs.OneRefusal.{stamps_named}
+use Rattle.map_docs.specs.LabelsChecks.{langmaps_checks}
+use Rattle.map_docs.specs.MapsLabels.{ReadsAsLangMaps}
+use Rattle.script_docs.specs.Reading.{IsScriptDocument, script_checks}
+use Rattle.docs_core.proofs.SitesOneRefusal.{cells_named, langmaps, read_not_refused, scripts}
+use Rattle.docs_core.proofs.SitesOneRefusal.{stamps_named}
 use Rattle.docs_core.proofs.laws.a_read_text_is_not_refused.Goals as goal
 
 pub returns-clause-site : goal.returns-clause-site

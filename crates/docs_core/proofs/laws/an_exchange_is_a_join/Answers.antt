@@ -1,4 +1,4 @@
-use Rattle.docs_core.proofs.ExchangedLemmas.{exchanged}
+use Rattle.docs_core.proofs.SitesExchangedLemmas.{exchanged}
 use Rattle.docs_core.proofs.laws.an_exchange_is_a_join.Goals as goal
 
 pub returns : goal.returns

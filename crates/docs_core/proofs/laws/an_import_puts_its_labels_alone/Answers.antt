@@ -1,4 +1,4 @@
-use Rattle.docs_core.proofs.ImportLaws.{import_leaves, import_puts}
+use Rattle.docs_core.proofs.ImportingLaws.{import_leaves, import_puts}
 use Rattle.docs_core.proofs.laws.an_import_puts_its_labels_alone.Goals as goal
 
 pub returns-clause-labels : goal.returns-clause-labels

@@ -1,4 +1,4 @@
-use Rattle.docs_core.proofs.UpdateLaws.{twice_document, twice_once}
+use Rattle.docs_core.proofs.UpdatingLaws.{twice_document, twice_once}
 use Rattle.docs_core.proofs.laws.an_update_twice_is_one.Goals as goal
 
 pub returns-clause-cells : goal.returns-clause-cells

@@ -1,4 +1,4 @@
-use Rattle.docs_core.proofs.UpdateLaws.{equal_document, equal_nothing}
+use Rattle.docs_core.proofs.UpdatingLaws.{equal_document, equal_nothing}
 use Rattle.docs_core.proofs.laws.equal_labels_change_nothing.Goals as goal
 
 pub returns-clause-cells : goal.returns-clause-cells

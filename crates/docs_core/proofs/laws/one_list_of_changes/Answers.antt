@@ -1,5 +1,5 @@
-use Rattle.docs_core.proofs.UpdateLaws.{one_list}
-use Rattle.docs_core.proofs.UpdatedLemmas.{there_are_changes}
+use Rattle.docs_core.proofs.UpdatingLaws.{one_list}
+use Rattle.docs_core.proofs.UpdatingLemmas.{there_are_changes}
 use Rattle.docs_core.proofs.laws.one_list_of_changes.Goals as goal
 
 pub returns-clause-there : goal.returns-clause-there

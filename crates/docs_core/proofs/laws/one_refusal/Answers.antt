@@ -1,8 +1,9 @@
 use Rattle.site_docs.specs.SiteDocuments.{delta_checks, site_checks, summary_checks}
 use Rattle.row_docs.specs.declared.kind.Kind.TheVariants.{Delta, Site, Summary}
-use Rattle.map_docs.specs.LangMapChecks.{langmaps_checks}
-use Rattle.script_docs.specs.ScriptReads.{script_checks}
-use Rattle.docs_core.proofs.OneRefusal.{cells_named, langmaps, one_cause, scripts, stamps_named}
+use Rattle.map_docs.specs.LabelsChecks.{langmaps_checks}
+use Rattle.script_docs.specs.Reading.{script_checks}
+use Rattle.docs_core.proofs.SitesOneRefusal.{cells_named, langmaps, one_cause, scripts}
+use Rattle.docs_core.proofs.SitesOneRefusal.{stamps_named}
 use Rattle.docs_core.proofs.laws.one_refusal.Goals as goal
 
 pub returns-clause-site : goal.returns-clause-site

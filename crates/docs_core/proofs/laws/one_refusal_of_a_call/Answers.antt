@@ -2,7 +2,7 @@ use Rattle.docs_core.proofs.CallLaws.{one_changes_call, one_delta_call, one_edit
 use Rattle.docs_core.proofs.CallLaws.{one_plain_sync, one_plain_take, one_sync, one_take}
 use Rattle.docs_core.proofs.CallLaws.{one_update}
 use Rattle.docs_core.proofs.CallRefusals.{one_of_site_document}
-use Rattle.docs_core.proofs.MergeLaws.{one_merge_refusal}
+use Rattle.docs_core.proofs.MergingLaws.{one_merge_refusal}
 use Rattle.docs_core.proofs.laws.one_refusal_of_a_call.Goals as goal
 
 pub returns-clause-edit : goal.returns-clause-edit

@@ -1,4 +1,4 @@
-use Rattle.docs_core.proofs.MergeLaws.{any_copies, any_order}
+use Rattle.docs_core.proofs.MergingLaws.{any_copies, any_order}
 use Rattle.docs_core.proofs.laws.the_order_of_a_merge_is_free.Goals as goal
 
 pub returns-clause-others : goal.returns-clause-others

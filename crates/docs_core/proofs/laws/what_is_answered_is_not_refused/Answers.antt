@@ -3,7 +3,7 @@ use Rattle.docs_core.proofs.CallLaws.{edit_not_refused, import_not_refused, plai
 use Rattle.docs_core.proofs.CallLaws.{plain_take_not_refused, sync_not_refused, take_not_refused}
 use Rattle.docs_core.proofs.CallLaws.{update_not_refused}
 use Rattle.docs_core.proofs.CallRefusals.{site_not_refused}
-use Rattle.docs_core.proofs.MergeLaws.{merge_not_refused}
+use Rattle.docs_core.proofs.MergingLaws.{merge_not_refused}
 use Rattle.docs_core.proofs.laws.what_is_answered_is_not_refused.Goals as goal
 
 pub returns-clause-edit : goal.returns-clause-edit

@@ -1,5 +1,5 @@
 use Rattle.std.proofs.Common.{◌==◌}
-use Rattle.docs_core.proofs.FirstByteLemmas.{first_is_position}
+use Rattle.docs_core.proofs.LinesFirstByteLemmas.{first_is_position}
 use Rattle.docs_core.proofs.lines.first_line_feed.Goals as goal
 
 pub returns : goal.returns

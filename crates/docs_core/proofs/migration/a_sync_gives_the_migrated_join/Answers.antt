@@ -1,4 +1,4 @@
-use Rattle.docs_core.proofs.OldSitesLemmas.{sync_migrated}
+use Rattle.docs_core.proofs.MigrationSitesLemmas.{sync_migrated}
 use Rattle.docs_core.proofs.migration.a_sync_gives_the_migrated_join.Goals as goal
 
 pub returns : goal.returns

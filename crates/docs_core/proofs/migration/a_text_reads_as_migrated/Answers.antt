@@ -1,4 +1,4 @@
-use Rattle.docs_core.proofs.OldSitesLemmas.{delta_fits, script_fits, site_fits, summary_fits}
+use Rattle.docs_core.proofs.MigrationSitesLemmas.{delta_fits, script_fits, site_fits, summary_fits}
 use Rattle.docs_core.proofs.migration.a_text_reads_as_migrated.Goals as goal
 
 pub returns-clause-site : goal.returns-clause-site

@@ -1,6 +1,6 @@
 use Rattle.std.proofs.Common.{rules}
 use Rattle.front_c.specs.Reporting.{ReportsPicked}
-use Rattle.front_c.proofs.AskedLemmas.{refused_reports}
+use Rattle.front_c.proofs.ReportingAskedLemmas.{refused_reports}
 use Rattle.front_c.proofs.reporting.report_pick.Goals as goal
 
 pub returns-in-Err : goal.returns-in-Err

@@ -2,7 +2,7 @@ use Rattle.std.proofs.Common.{◌≡◌, rules, subst}
 use Rattle.std.specs.Prelude.{IfSome}
 use Rattle.std.proofs.lemmas.Result.{err_from_is_err_and}
 use Rattle.cata_core.specs.Site.{SiteState}
-use Rattle.docs_core.specs.Updated.{Updates}
+use Rattle.docs_core.specs.Updating.{Updates}
 use Rattle.front_core.specs.OpenSite.{IsJoined}
 use Rattle.front_core.proofs.OpenSiteLemmas.{changes_refused}
 use Rattle.front_core.proofs.editing.update_in.Goals as goal

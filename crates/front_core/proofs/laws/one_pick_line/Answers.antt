@@ -1,4 +1,4 @@
-use Rattle.front_core.proofs.PickLaws.{one_pick_line}
+use Rattle.front_core.proofs.TagPickLaws.{one_pick_line}
 use Rattle.front_core.proofs.laws.one_pick_line.Goals as goal
 
 pub returns : goal.returns

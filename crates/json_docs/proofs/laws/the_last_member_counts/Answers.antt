@@ -1,5 +1,5 @@
 use Rattle.serde_json.specs.Data.{no_members}
-use Rattle.json_docs.proofs.LastMemberLemmas.{last_counts}
+use Rattle.json_docs.proofs.ObjectLastMemberLemmas.{last_counts}
 use Rattle.json_docs.proofs.laws.the_last_member_counts.Goals as goal
 
 pub returns : goal.returns

@@ -6,10 +6,10 @@ use Rattle.lang_core.specs.Grammar.{tag_piece, is_irregular, are_allowed}
 use Rattle.lang_core.specs.Pieces.{pieces_left}
 use Rattle.lang_core.specs.Stage.{accepts, stage_after}
 use Rattle.lang_core.specs.declared.stage.Stage.TheVariants.{Start}
-use Rattle.lang_core.proofs.CaseLemmas.{lowered}
+use Rattle.lang_core.proofs.SubtagCaseLemmas.{lowered}
 use Rattle.lang_core.proofs.PiecesLemmas.{pieces-lower}
 use Rattle.lang_core.proofs.GrammarLemmas.{accepts_next, is_tag, is_no_tag}
-use Rattle.lang_core.proofs.Walks.{walk_start, walk_on, walk_fits, walk_end}
+use Rattle.lang_core.proofs.PiecesWalk.{walk_start, walk_on, walk_fits, walk_end}
 use Rattle.lang_core.proofs.grammar.fault_by_subtags.Goals as goal
 
 pub loop-piece-init : goal.loop-piece-init

@@ -4,8 +4,8 @@ use Rattle.lang_core.specs.Grammar.{tag_piece}
 use Rattle.lang_core.specs.Pieces.{pieces_left}
 use Rattle.lang_core.specs.Stage.{accepts}
 use Rattle.lang_core.specs.declared.stage.Stage.TheVariants.{Start}
-use Rattle.lang_core.proofs.CaseLemmas.{lowered}
-use Rattle.lang_core.proofs.Walks.{IsWalked}
+use Rattle.lang_core.proofs.SubtagCaseLemmas.{lowered}
+use Rattle.lang_core.proofs.PiecesWalk.{IsWalked}
 use Rattle.lang_core.proofs.grammar.fault_by_subtags.Given as goal
 
 abbrev pub invariant-loop-piece : goal.invariant-loop-piece

@@ -1,4 +1,4 @@
-use Rattle.lang_core.proofs.LookupLemmas.{as_basic-extended, as_basic-basic}
+use Rattle.lang_core.proofs.LookupTextLemmas.{as_basic-extended, as_basic-basic}
 use Rattle.lang_core.proofs.laws.as_basic_is_basic.Goals as goal
 
 pub returns-clause-extended : goal.returns-clause-extended

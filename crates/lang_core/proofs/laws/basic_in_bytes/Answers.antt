@@ -1,4 +1,4 @@
-use Rattle.lang_core.proofs.BasicBytes.{bytes_of_basic, basic_of_bytes}
+use Rattle.lang_core.proofs.MatchingBasicBytes.{bytes_of_basic, basic_of_bytes}
 use Rattle.lang_core.proofs.laws.basic_in_bytes.Goals as goal
 
 pub returns : goal.returns

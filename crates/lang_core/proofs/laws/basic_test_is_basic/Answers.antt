@@ -1,4 +1,4 @@
-use Rattle.lang_core.proofs.BasicLaw.{basic_of_test, test_of_basic}
+use Rattle.lang_core.proofs.MatchingBasic.{basic_of_test, test_of_basic}
 use Rattle.lang_core.proofs.laws.basic_test_is_basic.Goals as goal
 
 pub returns : goal.returns

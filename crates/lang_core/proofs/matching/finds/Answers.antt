@@ -1,6 +1,6 @@
 use Rattle.std.proofs.Common.{rules, ◌∷◌, ◌∙◌, ap, arith}
 use Rattle.lang_core.specs.Matching.{greedy}
-use Rattle.lang_core.proofs.Embedding.{greedy_pair, greedy_stop, greedy_pass, greedy_none}
+use Rattle.lang_core.proofs.MatchingEmbedding.{greedy_pair, greedy_stop, greedy_pass, greedy_none}
 use Rattle.lang_core.proofs.matching.finds.Goals as goal
 
 pub returns-then-eq : goal.returns-then-eq

@@ -1,5 +1,5 @@
 use Rattle.std.proofs.Common.{rules}
-use Rattle.lang_core.proofs.FrontLemmas.{front_found, front_missed}
+use Rattle.lang_core.proofs.MatchingFrontsLemmas.{front_found, front_missed}
 use Rattle.lang_core.proofs.matching.is_front.Goals as goal
 
 pub returns-in-Some : goal.returns-in-Some

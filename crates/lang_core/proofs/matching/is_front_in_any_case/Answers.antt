@@ -1,5 +1,5 @@
 use Rattle.std.proofs.Common.{rules}
-use Rattle.lang_core.proofs.FrontLemmas.{lower_front_found, lower_front_missed}
+use Rattle.lang_core.proofs.MatchingFrontsLemmas.{lower_front_found, lower_front_missed}
 use Rattle.lang_core.proofs.matching.is_front_in_any_case.Goals as goal
 
 pub returns-in-Some : goal.returns-in-Some

@@ -1,4 +1,4 @@
-use Rattle.lang_core.proofs.FrontLemmas.{star_matches, front_matches}
+use Rattle.lang_core.proofs.MatchingFrontsLemmas.{star_matches, front_matches}
 use Rattle.lang_core.proofs.matching.matches_basic.Goals as goal
 
 pub returns-then-is_star : goal.returns-then-is_star

@@ -1,7 +1,7 @@
 use Rattle.std.specs.Prelude.{IsTrue, ◌↔◌}
 use Rattle.lang_core.specs.Text.{pieces, subtags}
 use Rattle.lang_core.specs.Matching.{IsFront}
-use Rattle.lang_core.proofs.FrontLemmas.{star_matches, front_matches}
+use Rattle.lang_core.proofs.MatchingFrontsLemmas.{star_matches, front_matches}
 use Rattle.lang_core.proofs.matching.matches_basic_text.Goals as goal
 
 pub returns-then-is_star : goal.returns-then-is_star

@@ -2,7 +2,7 @@ use Rattle.std.proofs.Common.{rules, ◌≡◌, sym, ◌∙◌, ap, [], List, �
 use Rattle.std.specs.Prelude.{◌&&◌}
 use Rattle.lang_core.specs.Pieces.{pieces_left}
 use Rattle.lang_core.specs.Matching.{greedy}
-use Rattle.lang_core.proofs.Embedding.{greedy_all, greedy_star}
+use Rattle.lang_core.proofs.MatchingEmbedding.{greedy_all, greedy_star}
 use Rattle.lang_core.proofs.matching.pairs.Goals as goal
 use Rattle.lang_core.proofs.matching.pairs.Goals.{else-not-is_star-via-then-not-is_star+else-not-finds}
 use Rattle.lang_core.proofs.matching.pairs.Goals.{else-not-is_star-via-else-not-is_star}

@@ -1,6 +1,6 @@
 use Rattle.std.proofs.Common.{inl, sym, ◌∙◌}
 use Rattle.std.specs.Str.{str_to_ascii_lowercase}
-use Rattle.lang_core.proofs.CaseLemmas.{star-lower}
+use Rattle.lang_core.proofs.SubtagCaseLemmas.{star-lower}
 use Rattle.lang_core.proofs.RangeText.{star_pieces, basic_answer}
 use Rattle.lang_core.proofs.range_syntax.basic_fault.Goals as goal
 

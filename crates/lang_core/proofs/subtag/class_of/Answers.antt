@@ -1,7 +1,7 @@
 use Rattle.std.proofs.Common.{ℕ, ◌≡◌, ◌≤◌, get_or, refl, sym, ◌∙◌, ap, subst, arith}
 use Rattle.lang_core.specs.Subtag.{class_of}
 use Rattle.lang_core.specs.declared.subtag.TheConstants.{CLASSES}
-use Rattle.lang_core.proofs.ClassSums.{from_table, small_class}
+use Rattle.lang_core.proofs.SubtagClassSums.{from_table, small_class}
 use Rattle.lang_core.proofs.subtag.class_of.Goals as goal
 
 pub returns : goal.returns

@@ -2,7 +2,7 @@ use Rattle.std.proofs.Common.{arith, ◌∙◌, sym, subst, List, ℕ}
 use Rattle.lang_core.specs.Text.{pieces}
 use Rattle.lang_core.specs.Kind.{is_of}
 use Rattle.lang_core.specs.Subtags.{subtags_left}
-use Rattle.lang_core.proofs.RunsLemmas.{IsRunSoFar, run_fits, run_on}
+use Rattle.lang_core.proofs.SubtagsRunsLemmas.{IsRunSoFar, run_fits, run_on}
 use Rattle.lang_core.proofs.subtags.run_len.Goals as goal
 
 pub overflow_add-len-in-loop-subtag : goal.overflow_add-len-in-loop-subtag

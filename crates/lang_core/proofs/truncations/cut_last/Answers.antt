@@ -1,6 +1,6 @@
 use Rattle.std.proofs.Common.{◌≡◌, arith, take, get_or, ◌∙◌}
 use Rattle.std.proofs.lemmas.Str.{IsCharBoundary-after_ascii}
-use Rattle.lang_core.proofs.CandidateLemmas.{pieces_last}
+use Rattle.lang_core.proofs.TruncationsLemmas.{pieces_last}
 use Rattle.lang_core.proofs.PiecesLemmas.{pieces_no_hyphen}
 use Rattle.lang_core.proofs.truncations.cut_last.Goals as goal
 

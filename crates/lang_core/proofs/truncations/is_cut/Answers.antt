@@ -2,8 +2,8 @@ use Rattle.std.proofs.Common.{ℕ, List, ◌≡◌, ap, sym, ◌∙◌}
 use Rattle.std.specs.Prelude.{◌||◌}
 use Rattle.lang_core.specs.Grammar.{is_star}
 use Rattle.lang_core.specs.Text.{pieces}
-use Rattle.lang_core.specs.Candidates.{is_cut, is_single}
-use Rattle.lang_core.proofs.CandidateLemmas.{is_cut_one, is_cut_push}
+use Rattle.lang_core.specs.TruncationsCandidates.{is_cut, is_single}
+use Rattle.lang_core.proofs.TruncationsLemmas.{is_cut_one, is_cut_push}
 use Rattle.lang_core.proofs.PiecesLemmas.{some_pieces}
 use Rattle.lang_core.proofs.truncations.is_cut.Goals as goal
 

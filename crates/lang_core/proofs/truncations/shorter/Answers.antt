@@ -1,6 +1,6 @@
 use Rattle.std.proofs.Common.{rules, ap, ◌∙◌}
-use Rattle.lang_core.specs.Candidates.{truncated}
-use Rattle.lang_core.proofs.CandidateLemmas.{truncated_one, truncated_stands, truncated_skips}
+use Rattle.lang_core.specs.TruncationsCandidates.{truncated}
+use Rattle.lang_core.proofs.TruncationsLemmas.{truncated_one, truncated_stands, truncated_skips}
 use Rattle.lang_core.proofs.PiecesLemmas.{some_pieces}
 use Rattle.lang_core.proofs.truncations.shorter.Goals as goal
 

@@ -1,6 +1,6 @@
 use Rattle.lang_core.specs.Text.{pieces}
 use Rattle.list_core.specs.Deciding.{IsBest, Matches}
-use Rattle.list_core.proofs.MostSpecificLemmas.{Before}
+use Rattle.list_core.proofs.DecidingMostSpecificLemmas.{Before}
 use Rattle.list_core.proofs.deciding.best_of.Given as goal
 
 abbrev pub invariant-loop-place : goal.invariant-loop-place

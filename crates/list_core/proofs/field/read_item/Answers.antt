@@ -1,6 +1,6 @@
 use Rattle.std.proofs.Common.{rules, ◌++◌}
 use Rattle.list_core.specs.Field.{HasStart}
-use Rattle.list_core.proofs.RangeEndLemmas.{no_begun_range, no_begun_weight, has_begun_item}
+use Rattle.list_core.proofs.FieldRangeEndLemmas.{no_begun_range, no_begun_weight, has_begun_item}
 use Rattle.list_core.proofs.field.read_item.Goals as goal
 
 pub returns-in_default : goal.returns-in_default

@@ -2,13 +2,13 @@ use Rattle.std.proofs.Common.{rules, ◌≡◌, ◌<◌, ◌-◌, ◌++◌, leng
 use Rattle.list_core.specs.Field.{BeginsOverlong}
 use Rattle.list_core.specs.Field.{HasElement, RefusesField, IsFirstPiece}
 use Rattle.list_core.specs.declared.fault.NegoFault.TheVariants.{FieldMalformed}
-use Rattle.list_core.proofs.SeparatorLemmas.{BeginsElement, walked_from, begins_element}
-use Rattle.list_core.proofs.SeparatorLemmas.{element_read}
-use Rattle.list_core.proofs.SeparatorLemmas.{element_refused, overlong_refused, element_passed}
-use Rattle.list_core.proofs.SeparatorLemmas.{element_fits, cut_shorter, no_more, rest_fits}
-use Rattle.list_core.proofs.SeparatorLemmas.{walked_to_end}
+use Rattle.list_core.proofs.FieldSeparatorLemmas.{BeginsElement, walked_from, begins_element}
+use Rattle.list_core.proofs.FieldSeparatorLemmas.{element_read}
+use Rattle.list_core.proofs.FieldSeparatorLemmas.{element_refused, overlong_refused, element_passed}
+use Rattle.list_core.proofs.FieldSeparatorLemmas.{element_fits, cut_shorter, no_more, rest_fits}
+use Rattle.list_core.proofs.FieldSeparatorLemmas.{walked_to_end}
 use Rattle.list_core.proofs.FieldWalk.{no_bytes}
-use Rattle.list_core.proofs.RangeEndLemmas.{end_overlong, piece_begun, whole_piece}
+use Rattle.list_core.proofs.FieldRangeEndLemmas.{end_overlong, piece_begun, whole_piece}
 use Rattle.list_core.proofs.field.read_items.Goals.{in-Some+in_ok-push_item-in-Some}
 use Rattle.list_core.proofs.field.read_items.Goals.{in-None+in_ok-pass_over-in-None}
 use Rattle.list_core.proofs.field.read_items.Goals as goal

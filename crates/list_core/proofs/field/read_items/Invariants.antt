@@ -1,5 +1,5 @@
 use Rattle.std.proofs.Common.{◌≤◌, length}
-use Rattle.list_core.proofs.SeparatorLemmas.{BeginsElement, IsWalkedTo}
+use Rattle.list_core.proofs.FieldSeparatorLemmas.{BeginsElement, IsWalkedTo}
 use Rattle.list_core.proofs.field.read_items.Given as goal
 
 abbrev pub invariant-loop-rest : goal.invariant-loop-rest

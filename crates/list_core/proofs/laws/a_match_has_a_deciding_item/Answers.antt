@@ -1,4 +1,4 @@
-use Rattle.list_core.proofs.MatchedLemmas.{a_match_decides}
+use Rattle.list_core.proofs.DecidingMatchedLemmas.{a_match_decides}
 use Rattle.list_core.proofs.laws.a_match_has_a_deciding_item.Goals as goal
 
 pub returns : goal.returns

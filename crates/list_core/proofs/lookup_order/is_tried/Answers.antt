@@ -1,4 +1,4 @@
-use Rattle.list_core.proofs.OrderKeyLemmas.{tried_is}
+use Rattle.list_core.proofs.LookupOrderKeyLemmas.{tried_is}
 use Rattle.list_core.proofs.lookup_order.is_tried.Goals as goal
 
 pub returns-then-weight-ne0 : goal.returns-then-weight-ne0

@@ -1,5 +1,5 @@
 use Rattle.std.proofs.Common.{sym, ◌∙◌}
-use Rattle.list_core.proofs.BlanksLemmas.{cut_at, cut_whole}
+use Rattle.list_core.proofs.WeightBlanksLemmas.{cut_at, cut_whole}
 use Rattle.list_core.proofs.weight.cut_token.Goals as goal
 
 pub returns-in-Some : goal.returns-in-Some

@@ -5,11 +5,11 @@ use Rattle.std.specs.Map.{lookup}
 use Rattle.std.specs.Prelude.{is_some}
 use Rattle.cell_core.specs.Entry.{text_cmp}
 use Rattle.cell_core.specs.Label.{texts_of}
-use Rattle.map_docs.specs.LangMapRows.{Strings}
-use Rattle.map_docs.specs.LangMapRowsSeen.{HoldsKeys, strings_seen}
-use Rattle.map_docs.proofs.LangMapLabelsLemmas.{HoldsKeys-next, key_passes, label_fails}
-use Rattle.map_docs.proofs.LangMapLabelsLemmas.{language_fails, lower_of, repeated_fails}
-use Rattle.map_docs.proofs.LangMapLabelsLemmas.{shape_fails}
+use Rattle.map_docs.specs.MembersRows.{Strings}
+use Rattle.map_docs.specs.MembersRowsSeen.{HoldsKeys, strings_seen}
+use Rattle.map_docs.proofs.MapsLabelsLemmas.{HoldsKeys-next, key_passes, label_fails}
+use Rattle.map_docs.proofs.MapsLabelsLemmas.{language_fails, lower_of, repeated_fails}
+use Rattle.map_docs.proofs.MapsLabelsLemmas.{shape_fails}
 use Rattle.map_docs.proofs.labels.add_key.Goals as goal
 
 pub returns-in_err-lang-clause-err : goal.returns-in_err-lang-clause-err

@@ -1,6 +1,6 @@
 use Rattle.std.proofs.Common.{◌<◌, length, map, string_bytes, arith, sym, ◌∙◌}
 use Rattle.std.proofs.lemmas.List.{length-map}
-use Rattle.map_docs.proofs.LangMapFieldsLemmas.{some_strings, strings_cause}
+use Rattle.map_docs.proofs.LabelsFieldsLemmas.{some_strings, strings_cause}
 use Rattle.map_docs.proofs.labels.label_of.Goals as goal
 
 pub returns-in-Err : goal.returns-in-Err

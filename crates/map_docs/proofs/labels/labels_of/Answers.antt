@@ -2,14 +2,14 @@ use Rattle.std.proofs.Common.{◌∙◌, ◌+◌, List, [], ◌∷◌, ◌++◌,
 use Rattle.std.proofs.Common.{string_bytes, subst, sym, length-append}
 use Rattle.std.specs.Vec.Iter.{into_iter_items}
 use Rattle.std.proofs.lemmas.Result.{err_from_is_err_and}
-use Rattle.json_docs.specs.Checks.{AllPass, FirstFails}
-use Rattle.map_docs.specs.LangMapChecks.{members_checks}
-use Rattle.map_docs.specs.LangMapRows.{Rows}
-use Rattle.map_docs.specs.LangMapRowsSeen.{AreSorted, HeldKeys, keys_in_seen, rows_seen}
-use Rattle.map_docs.specs.LangMaps.{Labelled}
-use Rattle.map_docs.proofs.LangMapLabelsLemmas.{HoldsRows, HoldsRows-next, HoldsRows-none}
-use Rattle.map_docs.proofs.LangMapLabelsLemmas.{first_lesser, else_by, one_further, rows_fail}
-use Rattle.map_docs.proofs.LangMapLabelsLemmas.{rows_pass, rows_seen_after, same_length}
+use Rattle.json_docs.specs.FaultChecks.{AllPass, FirstFails}
+use Rattle.map_docs.specs.LabelsChecks.{members_checks}
+use Rattle.map_docs.specs.MembersRows.{Rows}
+use Rattle.map_docs.specs.MembersRowsSeen.{AreSorted, HeldKeys, keys_in_seen, rows_seen}
+use Rattle.map_docs.specs.Maps.{Labelled}
+use Rattle.map_docs.proofs.MapsLabelsLemmas.{HoldsRows, HoldsRows-next, HoldsRows-none}
+use Rattle.map_docs.proofs.MapsLabelsLemmas.{first_lesser, else_by, one_further, rows_fail}
+use Rattle.map_docs.proofs.MapsLabelsLemmas.{rows_pass, rows_seen_after, same_length}
 use Rattle.map_docs.proofs.labels.labels_of.Goals as goal
 
 pub loop-name-init : goal.loop-name-init

@@ -1,12 +1,12 @@
 use Rattle.std.proofs.Common.{[], ◌∷◌, ◌++◌, ◌∙◌, ap, string_bytes, subst, sym}
 use Rattle.std.proofs.lemmas.Result.{err_from_is_err_and}
 use Rattle.std.specs.Vec.Iter.{into_iter_items}
-use Rattle.json_docs.specs.Checks.{AllPass, FirstFails}
-use Rattle.map_docs.specs.LangMapChecks.{keys_checks}
-use Rattle.map_docs.specs.LangMapRows.{Keys}
-use Rattle.map_docs.specs.LangMapRowsSeen.{HoldsKeys, keys_seen, strings_seen}
-use Rattle.map_docs.proofs.LangMapLabelsLemmas.{else_by, keys_fail, keys_pass, keys_seen_after}
-use Rattle.map_docs.proofs.LangMapLabelsLemmas.{one_further}
+use Rattle.json_docs.specs.FaultChecks.{AllPass, FirstFails}
+use Rattle.map_docs.specs.LabelsChecks.{keys_checks}
+use Rattle.map_docs.specs.MembersRows.{Keys}
+use Rattle.map_docs.specs.MembersRowsSeen.{HoldsKeys, keys_seen, strings_seen}
+use Rattle.map_docs.proofs.MapsLabelsLemmas.{else_by, keys_fail, keys_pass, keys_seen_after}
+use Rattle.map_docs.proofs.MapsLabelsLemmas.{one_further}
 use Rattle.map_docs.proofs.labels.languages_of.Goals as goal
 
 -- The keys so far pass, and are held: this key passed after them, and is held with them.

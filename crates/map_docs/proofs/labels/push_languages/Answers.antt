@@ -2,9 +2,9 @@ use Rattle.std.proofs.Common.{◌≡◌, ◌∙◌, ℕ, List, Some, ◌∷◌, 
 use Rattle.cell_core.specs.Keyed.{IsMap}
 use Rattle.cell_core.specs.Entry.{key_cmp}
 use Rattle.catalogue.specs.Entries.{IsAboveAll}
-use Rattle.catalogue.specs.Flat.{under}
-use Rattle.map_docs.specs.LangMapRowsSeen.{Found, live}
-use Rattle.map_docs.proofs.LangMapLabelsLemmas.{above_front}
+use Rattle.catalogue.specs.CatalogueFlat.{under}
+use Rattle.map_docs.specs.MembersRowsSeen.{Found, live}
+use Rattle.map_docs.proofs.MapsLabelsLemmas.{above_front}
 use Rattle.map_docs.proofs.labels.push_languages.Goals as goal
 
 -- it is above those before it, since all ascend

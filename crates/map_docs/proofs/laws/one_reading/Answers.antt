@@ -1,4 +1,4 @@
-use Rattle.map_docs.proofs.LangMapLawsLemmas.{same_labels}
+use Rattle.map_docs.proofs.MapsLawsLemmas.{same_labels}
 use Rattle.map_docs.proofs.laws.one_reading.Goals as goal
 
 pub returns : goal.returns

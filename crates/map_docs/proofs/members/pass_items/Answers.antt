@@ -1,9 +1,9 @@
 use Rattle.std.proofs.Common.{◌<◌, ◌++◌, ◌-◌, ◌∙◌, [], ◌∷◌, ap, arith, length, refl}
 use Rattle.json.specs.Json.{parse_map, value}
 use Rattle.serde_json.specs.Data.{no_items}
-use Rattle.json_docs.proofs.ReadingLemmas.{item_read, item_refused, items_over}
-use Rattle.json_docs.proofs.ArraysLemmas.{before, parse_map-none, parse_map-push}
-use Rattle.json_docs.proofs.MembersLemmas.{not_skipped, skipped}
+use Rattle.json_docs.proofs.ScanningReadingLemmas.{item_read, item_refused, items_over}
+use Rattle.json_docs.proofs.ScanningArraysLemmas.{before, parse_map-none, parse_map-push}
+use Rattle.json_docs.proofs.ObjectMembersLemmas.{not_skipped, skipped}
 use Rattle.map_docs.proofs.members.pass_items.Goals as goal
 
 pub loop-reader-init : goal.loop-reader-init

@@ -3,7 +3,7 @@ use Rattle.json.specs.Json.{items, parse_map, value}
 use Rattle.serde_json.specs.Data.{Data}
 use Rattle.serde_json.specs.Read.{converted, of_items}
 use Rattle.json_docs.specs.Numbers.{are_in_range}
-use Rattle.json_docs.proofs.ArraysLemmas.{before}
+use Rattle.json_docs.proofs.ScanningArraysLemmas.{before}
 use Rattle.map_docs.proofs.members.pass_items.Given as goal
 
 -- the array is the items that were passed, and then what is left

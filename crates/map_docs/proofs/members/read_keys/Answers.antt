@@ -4,10 +4,11 @@ use Rattle.std.proofs.lemmas.Result.{err_from_is_err_and}
 use Rattle.json.specs.Reads.{token_of}
 use Rattle.json.specs.Token.{begin_array, begin_object}
 use Rattle.serde_json.specs.Data.{array, object}
-use Rattle.map_docs.specs.LangMapRows.{keys_of}
-use Rattle.json_docs.proofs.MembersLemmas.{array_read, no_array, no_object, no_scalar, nothing_read}
-use Rattle.json_docs.proofs.MembersLemmas.{object_read, scalar_read}
-use Rattle.map_docs.proofs.LangMapLabelsLemmas.{else_by}
+use Rattle.map_docs.specs.MembersRows.{keys_of}
+use Rattle.json_docs.proofs.ObjectMembersLemmas.{array_read, no_array, no_object, no_scalar}
+use Rattle.json_docs.proofs.ObjectMembersLemmas.{nothing_read}
+use Rattle.json_docs.proofs.ObjectMembersLemmas.{object_read, scalar_read}
+use Rattle.map_docs.proofs.MapsLabelsLemmas.{else_by}
 use Rattle.map_docs.proofs.members.read_keys.Goals as goal
 
 pub returns-in_default-clause-read : goal.returns-in_default-clause-read

@@ -6,11 +6,12 @@ use Rattle.json.specs.Json.{read_key, value}
 use Rattle.json.proofs.Grammar.{read_key-shorter}
 use Rattle.serde_json.specs.Data.{no_members, put}
 use Rattle.map_docs.specs.AscendingMap.{entries_of}
-use Rattle.map_docs.specs.LangMapRowsSeen.{AreSorted, members_seen}
+use Rattle.map_docs.specs.MembersRowsSeen.{AreSorted, members_seen}
 use Rattle.map_docs.proofs.AscendingMapLemmas.{none_sorted}
-use Rattle.json_docs.proofs.ArraysLemmas.{not_json}
-use Rattle.json_docs.proofs.ReadingLemmas.{key_refused, member_read, member_refused, members_over}
-use Rattle.map_docs.proofs.LangMapMembersLemmas.{member_inserted}
+use Rattle.json_docs.proofs.ScanningArraysLemmas.{not_json}
+use Rattle.json_docs.proofs.ScanningReadingLemmas.{key_refused, member_read, member_refused}
+use Rattle.json_docs.proofs.ScanningReadingLemmas.{members_over}
+use Rattle.map_docs.proofs.MembersLemmas.{member_inserted}
 use Rattle.map_docs.proofs.members.read_members.Goals as goal
 
 pub loop-found-init : goal.loop-found-init

@@ -3,9 +3,9 @@ use Rattle.std.specs.Prelude.{option_map}
 use Rattle.std.proofs.lemmas.Result.{err_from_is_err_and}
 use Rattle.json.specs.Lex.{tokens}
 use Rattle.json.specs.Token.{begin_object}
-use Rattle.map_docs.specs.LangMapRows.{message_rows}
-use Rattle.json_docs.proofs.ArraysLemmas.{not_json}
-use Rattle.json_docs.proofs.WholeTextLemmas.{not_object, not_whole, object_whole}
+use Rattle.map_docs.specs.MembersRows.{message_rows}
+use Rattle.json_docs.proofs.ScanningArraysLemmas.{not_json}
+use Rattle.json_docs.proofs.TextWholeLemmas.{not_object, not_whole, object_whole}
 use Rattle.map_docs.proofs.members.read_rows.Goals as goal
 
 pub returns-in_err-rows-clause-read : goal.returns-in_err-rows-clause-read

@@ -1,9 +1,9 @@
 use Rattle.std.proofs.Common.{◌≡◌, ◌∙◌, ◌&&◌, [], ◌∷◌, ◌++◌, true, false, ap, ap₂, sym, arith}
 use Rattle.std.specs.List.{filter_map}
 use Rattle.serde_json.specs.Find.{as_str}
-use Rattle.json_docs.specs.Reads.{seen}
-use Rattle.json_docs.proofs.SeenLemmas.{IsRead-at}
-use Rattle.map_docs.proofs.LangMapMembersLemmas.{item_strings-push, items_fit-push, misfit}
+use Rattle.json_docs.specs.ScanningReads.{seen}
+use Rattle.json_docs.proofs.PartsSeenLemmas.{IsRead-at}
+use Rattle.map_docs.proofs.MembersLemmas.{item_strings-push, items_fit-push, misfit}
 use Rattle.map_docs.proofs.members.strings_of_items.Goals as goal
 
 pub add_string-requires : goal.add_string-requires

@@ -2,8 +2,8 @@ use Rattle.std.proofs.Common.{◌≡◌, map, take, true}
 use Rattle.std.specs.List.{filter_map, list_all}
 use Rattle.cell_core.specs.Label.{texts_of}
 use Rattle.serde_json.specs.Find.{as_str}
-use Rattle.json_docs.specs.Reads.{seen}
-use Rattle.map_docs.specs.LangMapRows.{is_string_or_null}
+use Rattle.json_docs.specs.ScanningReads.{seen}
+use Rattle.map_docs.specs.MembersRows.{is_string_or_null}
 use Rattle.map_docs.proofs.members.strings_of_items.Given as goal
 
 -- the items so far are strings and nulls, and their strings were taken

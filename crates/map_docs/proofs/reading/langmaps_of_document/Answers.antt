@@ -1,4 +1,4 @@
-use Rattle.map_docs.specs.LangMapLabels.{RefusesLangMaps}
+use Rattle.map_docs.specs.MapsLabels.{RefusesLangMaps}
 use Rattle.row_docs.proofs.ReadersLemmas.{of_reader}
 use Rattle.map_docs.proofs.reading.langmaps_of_document.Goals as goal
 

@@ -8,9 +8,9 @@ use Rattle.json.proofs.Grammar.{after_end_array-shorter}
 use Rattle.serde_json.specs.Data.{no_items, string}
 use Rattle.serde_json.specs.Read.{converted, of_items}
 use Rattle.cell_core.specs.Label.{IsLabel, texts_of}
-use Rattle.json_docs.proofs.ArraysLemmas.{before, list_of-before, parse_map-push}
-use Rattle.json_docs.proofs.ReadingLemmas.{item_read, items_over}
-use Rattle.map_docs.specs.LangMapRows.{strings_of}
+use Rattle.json_docs.proofs.ScanningArraysLemmas.{before, list_of-before, parse_map-push}
+use Rattle.json_docs.proofs.ScanningReadingLemmas.{item_read, items_over}
+use Rattle.map_docs.specs.MembersRows.{strings_of}
 use Rattle.map_docs.proofs.RisingLemmas.{strings_all, text_read}
 use Rattle.map_docs.proofs.rising.several_texts.Goals as goal
 

@@ -3,7 +3,7 @@ use Rattle.json.specs.Json.{items, parse_map, value}
 use Rattle.serde_json.specs.Data.{string}
 use Rattle.serde_json.specs.Read.{converted, of_items}
 use Rattle.cell_core.specs.Label.{texts_of}
-use Rattle.json_docs.proofs.ArraysLemmas.{before}
+use Rattle.json_docs.proofs.ScanningArraysLemmas.{before}
 use Rattle.map_docs.proofs.rising.several_texts.Given as goal
 
 -- the array is the strings that were read, and then what is left

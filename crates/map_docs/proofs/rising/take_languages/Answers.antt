@@ -7,11 +7,11 @@ use Rattle.serde_json.specs.Data.{no_members, put}
 use Rattle.lang_core.specs.Lang.{SpellsLang}
 use Rattle.cell_core.specs.Entry.{text_cmp}
 use Rattle.catalogue.specs.Entries.{IsAboveAll}
-use Rattle.catalogue.specs.Flat.{under}
-use Rattle.json_docs.proofs.ReadingLemmas.{member_read, members_over}
-use Rattle.map_docs.specs.LangMapLabels.{languages_of}
-use Rattle.map_docs.specs.LangMapRows.{Keys, keys_of, strings_in}
-use Rattle.map_docs.specs.LangMaps.{Labelled}
+use Rattle.catalogue.specs.CatalogueFlat.{under}
+use Rattle.json_docs.proofs.ScanningReadingLemmas.{member_read, members_over}
+use Rattle.map_docs.specs.MapsLabels.{languages_of}
+use Rattle.map_docs.specs.MembersRows.{Keys, keys_of, strings_in}
+use Rattle.map_docs.specs.Maps.{Labelled}
 use Rattle.map_docs.specs.RisingLabels.{Takes}
 use Rattle.map_docs.proofs.RisingLemmas.{AreRisingKeys, key_above, keys_next, member_behind}
 use Rattle.map_docs.proofs.RisingLemmas.{no_keys, takes_next, takes_none}

@@ -4,7 +4,7 @@ use denote.Shadow.{shadow}
 use Rattle.json.specs.Json.{members, value}
 use Rattle.serde_json.specs.Data.{Members, no_members}
 use Rattle.serde_json.specs.Read.{converted, of_members}
-use Rattle.map_docs.specs.LangMapRows.{keys_of}
+use Rattle.map_docs.specs.MembersRows.{keys_of}
 use Rattle.map_docs.specs.RisingLabels.{Takes}
 use Rattle.map_docs.proofs.RisingLemmas.{AreRisingKeys}
 use Rattle.map_docs.proofs.rising.take_languages.Given as goal

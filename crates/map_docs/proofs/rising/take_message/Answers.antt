@@ -1,8 +1,8 @@
 use Rattle.std.proofs.Common.{◌≡◌, ◌∷◌, List, ℕ, ap, arith, length, subst, sym}
 use Rattle.json.specs.Token.{begin_object}
-use Rattle.json_docs.proofs.MembersLemmas.{object_read}
-use Rattle.map_docs.specs.LangMapRows.{keys_of}
-use Rattle.map_docs.specs.LangMapRowsSeen.{AreLesser}
+use Rattle.json_docs.proofs.ObjectMembersLemmas.{object_read}
+use Rattle.map_docs.specs.MembersRows.{keys_of}
+use Rattle.map_docs.specs.MembersRowsSeen.{AreLesser}
 use Rattle.map_docs.specs.RisingLabels.{IsUnder}
 use Rattle.map_docs.proofs.rising.take_message.Goals as goal
 

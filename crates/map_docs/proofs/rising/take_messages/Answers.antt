@@ -5,9 +5,9 @@ use Rattle.json.specs.Json.{read_key, value}
 use Rattle.json.proofs.Grammar.{read_key-shorter}
 use Rattle.serde_json.specs.Data.{no_members, object, put}
 use Rattle.cell_core.specs.Entry.{text_cmp}
-use Rattle.json_docs.proofs.ReadingLemmas.{member_read, members_over}
-use Rattle.map_docs.specs.LangMapLabels.{rows_labels}
-use Rattle.map_docs.specs.LangMapRows.{Rows, keys_in, keys_of, message_rows}
+use Rattle.json_docs.proofs.ScanningReadingLemmas.{member_read, members_over}
+use Rattle.map_docs.specs.MapsLabels.{rows_labels}
+use Rattle.map_docs.specs.MembersRows.{Rows, keys_in, keys_of, message_rows}
 use Rattle.map_docs.proofs.RisingLemmas.{AreRisingRows, labels_behind, member_behind, no_rows}
 use Rattle.map_docs.proofs.RisingLemmas.{rows_next}
 use Rattle.map_docs.proofs.rising.take_messages.Goals as goal

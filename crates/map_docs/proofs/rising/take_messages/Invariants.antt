@@ -4,8 +4,8 @@ use denote.Shadow.{shadow}
 use Rattle.json.specs.Json.{members, value}
 use Rattle.serde_json.specs.Data.{Members, no_members}
 use Rattle.serde_json.specs.Read.{converted, of_members}
-use Rattle.map_docs.specs.LangMapLabels.{rows_labels}
-use Rattle.map_docs.specs.LangMapRows.{message_rows}
+use Rattle.map_docs.specs.MapsLabels.{rows_labels}
+use Rattle.map_docs.specs.MembersRows.{message_rows}
 use Rattle.map_docs.proofs.RisingLemmas.{AreRisingRows}
 use Rattle.map_docs.proofs.rising.take_messages.Given as goal
 

@@ -2,8 +2,8 @@ use Rattle.std.proofs.Common.{◌≡◌, ◌∙◌, [], ◌∷◌}
 use Rattle.std.specs.Prelude.{None}
 use Rattle.std.proofs.lemmas.Result.{IfOk-weaker}
 use Rattle.json.specs.Token.{begin_object}
-use Rattle.map_docs.specs.LangMapsWritten.{labels_tokens}
-use Rattle.map_docs.proofs.LangMapsLemmas.{written_whole}
+use Rattle.map_docs.specs.WritingMaps.{labels_tokens}
+use Rattle.map_docs.proofs.MapsLemmas.{written_whole}
 use Rattle.map_docs.proofs.WritingLemmas.{text_of}
 use Rattle.map_docs.proofs.writing.close_labels.Goals as goal
 

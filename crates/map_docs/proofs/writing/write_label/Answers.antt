@@ -1,7 +1,7 @@
 use Rattle.std.proofs.Common.{[], ◌∷◌}
 use Rattle.std.proofs.lemmas.Result.{IfOk-weaker}
 use Rattle.json.specs.Token.{key}
-use Rattle.row_docs.proofs.TextsLemmas.{Adds-then}
+use Rattle.row_docs.proofs.WritingTextsLemmas.{Adds-then}
 use Rattle.map_docs.proofs.writing.write_label.Goals as goal
 
 -- the language, and then the texts

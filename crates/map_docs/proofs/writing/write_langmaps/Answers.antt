@@ -1,7 +1,7 @@
 use Rattle.std.proofs.Common.{◌+◌, List, ap, drop, subst}
 use Rattle.std.specs.Prelude.{option_map}
-use Rattle.map_docs.specs.LangMaps.{Labelled, labels_of}
-use Rattle.map_docs.specs.LangMapsWritten.{IsWriting}
+use Rattle.map_docs.specs.Maps.{Labelled, labels_of}
+use Rattle.map_docs.specs.WritingMaps.{IsWriting}
 use Rattle.list_core.proofs.Basics.{element_at as first_left}
 use Rattle.map_docs.proofs.WritingLemmas.{open_id, writing_next}
 use Rattle.map_docs.proofs.writing.write_langmaps.Goals as goal

@@ -1,8 +1,8 @@
 use Rattle.std.proofs.Common.{drop}
 use Rattle.std.specs.Prelude.{IfSome, option_map}
 use Rattle.cell_core.specs.MessageId.{IsMessageId}
-use Rattle.map_docs.specs.LangMaps.{labels_of}
-use Rattle.map_docs.specs.LangMapsWritten.{IsWriting}
+use Rattle.map_docs.specs.Maps.{labels_of}
+use Rattle.map_docs.specs.WritingMaps.{IsWriting}
 use Rattle.map_docs.proofs.writing.write_langmaps.Given as goal
 
 -- with the labels that are left it comes to all, and the message that is open has an id

@@ -1,5 +1,5 @@
 use Rattle.nego_core.specs.Choosing.{IsOpen}
-use Rattle.nego_core.proofs.LookupCandidatesLemmas.{no_candidates, item_candidates}
+use Rattle.nego_core.proofs.ChoosingCandidatesLemmas.{no_candidates, item_candidates}
 use Rattle.nego_core.proofs.choosing.first_at.Goals as goal
 
 pub returns-then-place-items : goal.returns-then-place-items

@@ -3,7 +3,7 @@ use Rattle.std.proofs.lemmas.List.Elements.{All-nil}
 use Rattle.lang_core.specs.Text.{pieces}
 use Rattle.nego_core.specs.Choosing.{IsOpen}
 use Rattle.list_core.proofs.Basics.{false_true}
-use Rattle.nego_core.proofs.LookupCandidatesLemmas.{first_here, first_later}
+use Rattle.nego_core.proofs.ChoosingCandidatesLemmas.{first_here, first_later}
 use Rattle.nego_core.proofs.choosing.first_of.Goals as goal
 
 pub returns-then-is_open : goal.returns-then-is_open

@@ -2,7 +2,7 @@ use Rattle.std.specs.Prelude.{Option}
 use Rattle.std.proofs.Common.{ℕ, List}
 use Rattle.lang_core.specs.Text.{pieces}
 use Rattle.lang_core.specs.Matching.{as_basic}
-use Rattle.lang_core.specs.Candidates.{candidates}
+use Rattle.lang_core.specs.TruncationsCandidates.{candidates}
 use Rattle.lang_core.specs.Truncations.{truncations_left}
 use Rattle.nego_core.specs.Choosing.{IsOpen, MatchFirstOf}
 use Rattle.nego_core.proofs.choosing.first_of.Given as goal

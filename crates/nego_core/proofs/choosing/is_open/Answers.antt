@@ -1,5 +1,5 @@
 use Rattle.nego_core.proofs.ChoosingLemmas.{open_held, closed}
-use Rattle.nego_core.proofs.LookupCandidatesLemmas.{held_text}
+use Rattle.nego_core.proofs.ChoosingCandidatesLemmas.{held_text}
 use Rattle.list_core.specs.Deciding.{NamedRefuse}
 use Rattle.lang_core.specs.Text.{pieces}
 use Rattle.nego_core.proofs.choosing.is_open.Goals as goal

@@ -2,7 +2,7 @@ use Rattle.std.proofs.Common.{Some, None}
 use Rattle.lang_core.specs.Text.{pieces}
 use Rattle.nego_core.specs.Choosing.{IsOpen}
 use Rattle.list_core.specs.declared.lookup_order.OrderKey.{OrderKey}
-use Rattle.nego_core.proofs.LookupCandidatesLemmas.{key_found, key_passed, keys_over, looked_up}
+use Rattle.nego_core.proofs.ChoosingCandidatesLemmas.{key_found, key_passed, keys_over, looked_up}
 use Rattle.nego_core.proofs.choosing.look_up.Goals as goal
 
 abbrev zero : OrderKey

@@ -1,7 +1,7 @@
 use Rattle.std.specs.Prelude.{Option}
 use Rattle.std.proofs.Common.{ℕ, List}
 use Rattle.nego_core.specs.Choosing.{IsOpen}
-use Rattle.nego_core.proofs.LookupCandidatesLemmas.{FirstFrom}
+use Rattle.nego_core.proofs.ChoosingCandidatesLemmas.{FirstFrom}
 use Rattle.nego_core.proofs.choosing.look_up.Given as goal
 
 abbrev pub invariant-loop-key : goal.invariant-loop-key

@@ -1,4 +1,4 @@
-use Rattle.nego_core.proofs.LookupCandidatesLemmas.{named_refused}
+use Rattle.nego_core.proofs.ChoosingCandidatesLemmas.{named_refused}
 use Rattle.nego_core.proofs.choosing.named_refuse.Goals as goal
 
 pub returns-in-Some : goal.returns-in-Some

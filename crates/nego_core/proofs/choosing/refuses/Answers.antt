@@ -1,7 +1,7 @@
 use Rattle.list_core.specs.Deciding.{IsRefusedLang}
 use Rattle.list_core.specs.declared.scheme.Scheme.TheVariants as scheme
 use Rattle.nego_core.proofs.ChoosingLemmas.{none_refused}
-use Rattle.nego_core.proofs.NothingRefused.{no_lang_refused}
+use Rattle.nego_core.proofs.ChoosingNothingRefused.{no_lang_refused}
 use Rattle.nego_core.proofs.choosing.refuses.Goals as goal
 
 pub returns-then-not-may_refuse : goal.returns-then-not-may_refuse

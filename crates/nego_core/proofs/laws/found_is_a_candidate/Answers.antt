@@ -1,4 +1,4 @@
-use Rattle.nego_core.proofs.FoundCandidates.{found_candidate, found_open, none_open}
+use Rattle.nego_core.proofs.ChoosingFoundCandidates.{found_candidate, found_open, none_open}
 use Rattle.nego_core.proofs.laws.found_is_a_candidate.Goals as goal
 
 pub returns-clause-candidate : goal.returns-clause-candidate

@@ -1,4 +1,4 @@
-use Rattle.nego_core.proofs.NothingRefused.{no_tag_refused, no_lang_refused}
+use Rattle.nego_core.proofs.ChoosingNothingRefused.{no_tag_refused, no_lang_refused}
 use Rattle.nego_core.proofs.laws.nothing_refused.Goals as goal
 
 pub returns-clause-tags : goal.returns-clause-tags

@@ -1,4 +1,4 @@
-use Rattle.nego_core.proofs.LookupOrderEach.{weights_fall, as_written}
+use Rattle.nego_core.proofs.ChoosingOrderLemmas.{weights_fall, as_written}
 use Rattle.nego_core.proofs.laws.order_falls.Goals as goal
 
 pub returns-clause-falls : goal.returns-clause-falls

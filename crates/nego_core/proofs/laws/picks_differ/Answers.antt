@@ -1,4 +1,4 @@
-use Rattle.nego_core.proofs.PicksDiffer.{picks_apart}
+use Rattle.nego_core.proofs.FilteringPicksDiffer.{picks_apart}
 use Rattle.nego_core.proofs.laws.picks_differ.Goals as goal
 
 pub returns : goal.returns

@@ -1,4 +1,4 @@
-use Rattle.nego_core.proofs.UnweightedFilter.{all_matches}
+use Rattle.nego_core.proofs.FilteringUnweighted.{all_matches}
 use Rattle.nego_core.proofs.laws.unweighted_filtering.Goals as goal
 
 pub returns : goal.returns

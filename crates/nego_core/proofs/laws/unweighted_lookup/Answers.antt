@@ -1,4 +1,4 @@
-use Rattle.nego_core.proofs.UnweightedLookup.{first_held, looked_up_plain}
+use Rattle.nego_core.proofs.ChoosingUnweightedLemmas.{first_held, looked_up_plain}
 use Rattle.nego_core.proofs.laws.unweighted_lookup.Goals as goal
 
 pub returns : goal.returns

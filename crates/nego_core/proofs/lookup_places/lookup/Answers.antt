@@ -2,7 +2,7 @@ use Rattle.std.proofs.Common.{ℕ, ◌≡◌, List, true, Some, subst}
 use Rattle.lang_core.specs.Text.{pieces}
 use Rattle.nego_core.specs.LangSet.{is_among}
 use Rattle.nego_core.specs.Choosing.{IsLookedUp}
-use Rattle.nego_core.proofs.LookupCandidatesLemmas.{found_held}
+use Rattle.nego_core.proofs.ChoosingCandidatesLemmas.{found_held}
 use Rattle.nego_core.proofs.lookup_places.lookup.Goals as goal
 
 pub held_place-requires : goal.held_place-requires

@@ -2,7 +2,7 @@ use Rattle.std.proofs.Common.{List, ℕ, ◌∙◌}
 use Rattle.std.specs.Borrow.{Bor}
 use Rattle.nego_core.specs.Filtering.{texts_of}
 use Rattle.nego_core.proofs.FilteringKeys.{text_at, text_within}
-use Rattle.nego_core.proofs.RankingLemmas.{lang_matched, lang_unmatched}
+use Rattle.nego_core.proofs.ShortlistRankingLemmas.{lang_matched, lang_unmatched}
 use Rattle.nego_core.proofs.shortlist.all_matched.Goals as goal
 use Rattle.nego_core.proofs.shortlist.all_matched.Goals.{in-Some+in_ok-push-in-Some, in-None}
 

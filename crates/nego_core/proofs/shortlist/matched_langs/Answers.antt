@@ -1,5 +1,5 @@
 use Rattle.nego_core.specs.Filtering.{texts_of}
-use Rattle.nego_core.proofs.RankingLemmas.{matched_sorted}
+use Rattle.nego_core.proofs.ShortlistRankingLemmas.{matched_sorted}
 use Rattle.nego_core.proofs.shortlist.matched_langs.Goals as goal
 
 pub returns-in_ok-matched-in-By : goal.returns-in_ok-matched-in-By

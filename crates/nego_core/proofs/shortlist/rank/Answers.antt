@@ -4,11 +4,12 @@ use Rattle.lang_core.specs.Truncations.{truncations_left}
 use Rattle.nego_core.specs.Filtering.{texts_of}
 use Rattle.list_core.proofs.Basics.{false_true, same_default}
 use Rattle.nego_core.specs.declared.shortlist.MatchedLang.{MatchedLang}
-use Rattle.nego_core.proofs.RankingLemmas.{AtCandidates, Pieces}
-use Rattle.nego_core.proofs.RankingLemmas.{candidate_passed, candidate_taken, candidate_there}
-use Rattle.nego_core.proofs.RankingLemmas.{candidates_begin, candidates_none, key_follows}
-use Rattle.nego_core.proofs.RankingLemmas.{match_passed, match_taken, rank_ends, read_at}
-use Rattle.nego_core.proofs.RankingLemmas.{read_other, walk_begins}
+use Rattle.nego_core.proofs.ShortlistRankingLemmas.{AtCandidates, Pieces}
+use Rattle.nego_core.proofs.ShortlistRankingLemmas.{candidate_passed, candidate_taken}
+use Rattle.nego_core.proofs.ShortlistRankingLemmas.{candidate_there}
+use Rattle.nego_core.proofs.ShortlistRankingLemmas.{candidates_begin, candidates_none, key_follows}
+use Rattle.nego_core.proofs.ShortlistRankingLemmas.{match_passed, match_taken, rank_ends, read_at}
+use Rattle.nego_core.proofs.ShortlistRankingLemmas.{read_other, walk_begins}
 use Rattle.nego_core.proofs.shortlist.rank.Goals as goal
 use Rattle.nego_core.proofs.shortlist.rank.Goals.{in-Some+in-None-text, in-None}
 use Rattle.nego_core.proofs.shortlist.rank.Goals.{in-Some-take-2+in_ok-push-in-Some-take-2}

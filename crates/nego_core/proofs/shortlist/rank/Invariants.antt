@@ -1,7 +1,7 @@
 use Rattle.std.proofs.Common.{◌-◌, length}
 use Rattle.lang_core.specs.Truncations.{truncations_left}
 use Rattle.nego_core.specs.Filtering.{texts_of}
-use Rattle.nego_core.proofs.RankingLemmas.{AtCandidates, AtKey, AtMatched}
+use Rattle.nego_core.proofs.ShortlistRankingLemmas.{AtCandidates, AtKey, AtMatched}
 use Rattle.nego_core.proofs.shortlist.rank.Given as goal
 
 abbrev pub invariant-loop-text : goal.invariant-loop-text

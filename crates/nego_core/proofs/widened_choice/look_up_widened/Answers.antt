@@ -2,7 +2,7 @@ use Rattle.std.proofs.Common.{Some, None, get_or, ◌+◌, arith}
 use Rattle.lang_core.specs.Text.{pieces}
 use Rattle.list_core.specs.declared.lookup_order.OrderKey.{OrderKey}
 use Rattle.list_core.proofs.Basics.{same_default}
-use Rattle.nego_core.proofs.EarliestLemmas.{IsFrom, candidate_at, earliest_at, none_at}
+use Rattle.nego_core.proofs.WideningEarliestLemmas.{IsFrom, candidate_at, earliest_at, none_at}
 use Rattle.nego_core.proofs.WideningLemmas.{key_found, key_passed, keys_over, looked_up}
 use Rattle.nego_core.proofs.widened_choice.look_up_widened.Goals as goal
 use Rattle.nego_core.proofs.widened_choice.look_up_widened.Goals.{in-None-earliest}

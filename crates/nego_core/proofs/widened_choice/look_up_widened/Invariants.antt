@@ -1,7 +1,7 @@
 use Rattle.std.specs.Prelude.{Option}
 use Rattle.std.proofs.Common.{ℕ, List}
 use Rattle.nego_core.specs.WidenedChoice.{MatchEarliest}
-use Rattle.nego_core.proofs.EarliestLemmas.{IsFrom}
+use Rattle.nego_core.proofs.WideningEarliestLemmas.{IsFrom}
 use Rattle.nego_core.proofs.WideningLemmas.{WidenedFrom}
 use Rattle.nego_core.proofs.widened_choice.look_up_widened.Given as goal
 

@@ -1,5 +1,5 @@
 use Rattle.std.specs.Prelude.{map}
-use Rattle.nego_core.proofs.EarliestLemmas.{earliest_next}
+use Rattle.nego_core.proofs.WideningEarliestLemmas.{earliest_next}
 use Rattle.nego_core.proofs.FilteringKeys.{text_at, text_within}
 use Rattle.nego_core.proofs.widening.earliest_of.Goals as goal
 

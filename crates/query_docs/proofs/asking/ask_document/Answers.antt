@@ -1,6 +1,6 @@
 use Rattle.std.proofs.Common.{subst}
 use Rattle.catalogue.specs.Entries.{Entries}
-use Rattle.query_docs.specs.Asks.{Answers}
+use Rattle.query_docs.specs.Asking.{Answers}
 use Rattle.query_docs.proofs.OneMessageLemmas.{same_answers}
 use Rattle.query_docs.proofs.asking.ask_document.Goals as goal
 

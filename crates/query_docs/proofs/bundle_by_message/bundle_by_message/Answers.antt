@@ -1,6 +1,6 @@
 use Rattle.std.proofs.Common.{subst}
 use Rattle.query_docs.specs.BundleByMessage.{default_of}
-use Rattle.query_docs.specs.Bundled.{IsBundleBy}
+use Rattle.query_docs.specs.Bundling.{IsBundleBy}
 use Rattle.query_docs.specs.declared.bundle_by_message.Bundle.{Bundle}
 use Rattle.query_docs.proofs.bundle_by_message.bundle_by_message.Goals as goal
 

@@ -1,7 +1,7 @@
 use Rattle.std.proofs.Common.{subst}
 use Rattle.std.specs.Prelude.{option_map}
 use Rattle.catalogue.specs.Entries.{Entries}
-use Rattle.query_docs.specs.Bundled.{IsBundleBy}
+use Rattle.query_docs.specs.Bundling.{IsBundleBy}
 use Rattle.query_docs.proofs.bundling.bundle_document_by.Goals as goal
 
 pub returns : goal.returns

@@ -5,9 +5,9 @@ use Rattle.nego_core.specs.Filtering.{texts_of}
 use Rattle.catalogue.specs.Reply.{reply_of}
 use Rattle.catalogue.specs.LiveMessages.{LiveMessage}
 use Rattle.catalogue.specs.Messages.{messages_left}
-use Rattle.query_docs.proofs.BundledLemmas.{AreLive, IsBundling, are_live, bundling_first}
-use Rattle.query_docs.proofs.BundledLemmas.{bundling_found, bundling_last, bundling_passed}
-use Rattle.query_docs.proofs.BundledLemmas.{shortlisted}
+use Rattle.query_docs.proofs.BundlingLemmas.{AreLive, IsBundling, are_live, bundling_first}
+use Rattle.query_docs.proofs.BundlingLemmas.{bundling_found, bundling_last, bundling_passed}
+use Rattle.query_docs.proofs.BundlingLemmas.{shortlisted}
 use Rattle.query_docs.proofs.bundling.write_bundle_by.Goals as goal
 
 pub loop-message-init : goal.loop-message-init

@@ -1,6 +1,6 @@
 use Rattle.std.specs.Prelude.{option_map}
 use Rattle.catalogue.specs.Messages.{messages_left}
-use Rattle.query_docs.proofs.BundledLemmas.{AreLive, IsBundling}
+use Rattle.query_docs.proofs.BundlingLemmas.{AreLive, IsBundling}
 use Rattle.query_docs.proofs.bundling.write_bundle_by.Given as goal
 
 abbrev pub invariant-loop-message : goal.invariant-loop-message

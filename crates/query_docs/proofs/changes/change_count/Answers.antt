@@ -1,7 +1,7 @@
 use Rattle.std.proofs.Common.{ap, subst, sym}
 use Rattle.catalogue.specs.Changes.{Changed}
 use Rattle.catalogue.specs.ChangesLeft.{changes_left}
-use Rattle.query_docs.proofs.ChangedLemmas.{IsCounting, counting_first}
+use Rattle.query_docs.proofs.ChangesLemmas.{IsCounting, counting_first}
 use Rattle.query_docs.proofs.changes.change_count.Goals as goal
 
 pub loop-init : goal.loop-init

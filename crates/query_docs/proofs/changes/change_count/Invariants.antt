@@ -1,5 +1,5 @@
 use Rattle.catalogue.specs.ChangesLeft.{changes_left}
-use Rattle.query_docs.proofs.ChangedLemmas.{IsCounting}
+use Rattle.query_docs.proofs.ChangesLemmas.{IsCounting}
 use Rattle.query_docs.proofs.changes.change_count.Given as goal
 
 abbrev pub invariant-loop : goal.invariant-loop

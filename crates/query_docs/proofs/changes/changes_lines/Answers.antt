@@ -1,6 +1,6 @@
 use Rattle.std.proofs.Common.{◌∙◌, ◌++◌, ap}
 use Rattle.catalogue.specs.ChangesLeft.{change_seen, changes_left}
-use Rattle.query_docs.proofs.ChangedLemmas.{counted_any, listing_first, listing_last, listing_next}
+use Rattle.query_docs.proofs.ChangesLemmas.{counted_any, listing_first, listing_last, listing_next}
 use Rattle.query_docs.proofs.changes.changes_lines.Goals as goal
 
 pub loop-change-init : goal.loop-change-init

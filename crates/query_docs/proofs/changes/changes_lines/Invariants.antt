@@ -1,6 +1,6 @@
 use Rattle.catalogue.specs.Changes.{AreChanges, Changed}
 use Rattle.catalogue.specs.ChangesLeft.{changes_left}
-use Rattle.query_docs.proofs.ChangedLemmas.{IsListing}
+use Rattle.query_docs.proofs.ChangesLemmas.{IsListing}
 use Rattle.query_docs.proofs.changes.changes_lines.Given as goal
 
 -- with the lines of the changes that are left it comes to all

@@ -2,10 +2,10 @@ use Rattle.std.proofs.Common.{◌≡◌, ◌∙◌, ◌++◌, List, ap, append_a
 use Rattle.std.proofs.Common.{sym, take}
 use Rattle.std.proofs.Math.Seq.{take-length}
 use Rattle.catalogue.proofs.Basics.{append_nil}
-use Rattle.map_docs.specs.LangMaps.{Labelled}
+use Rattle.map_docs.specs.Maps.{Labelled}
 use Rattle.query_docs.specs.ByMessage.{cell_of, cells_of}
 use Rattle.query_docs.specs.Draft.{HasWritten, labelled_by}
-use Rattle.query_docs.specs.Exported.{live_labels}
+use Rattle.query_docs.specs.Exporting.{live_labels}
 use Rattle.query_docs.proofs.ByMessageLemmas.{cells_to}
 use Rattle.query_docs.proofs.DraftLemmas.{live_more}
 use Rattle.query_docs.proofs.chosen.add_all.Goals as goal

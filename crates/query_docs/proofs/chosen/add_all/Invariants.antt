@@ -1,8 +1,8 @@
 use Rattle.std.proofs.Common.{◌++◌, List, take}
-use Rattle.map_docs.specs.LangMaps.{Labelled}
+use Rattle.map_docs.specs.Maps.{Labelled}
 use Rattle.query_docs.specs.ByMessage.{cells_of}
 use Rattle.query_docs.specs.Draft.{HasWritten}
-use Rattle.query_docs.specs.Exported.{live_labels}
+use Rattle.query_docs.specs.Exporting.{live_labels}
 use Rattle.query_docs.proofs.chosen.add_all.Given as goal
 
 -- the labels of the cells so far were added

@@ -1,6 +1,6 @@
 use Rattle.std.proofs.lemmas.Result.{IfOk-weaker}
 use Rattle.query_docs.specs.Chosen.{chosen_labels}
-use Rattle.query_docs.proofs.LiveLemmas.{chosen-IsMap}
+use Rattle.query_docs.proofs.ExportingLemmas.{chosen-IsMap}
 use Rattle.query_docs.proofs.chosen.close.Goals as goal
 
 pub returns : goal.returns

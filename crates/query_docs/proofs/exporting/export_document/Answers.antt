@@ -1,5 +1,5 @@
-use Rattle.query_docs.specs.Exported.{live_labels}
-use Rattle.query_docs.proofs.LiveLemmas.{live-IsMap}
+use Rattle.query_docs.specs.Exporting.{live_labels}
+use Rattle.query_docs.proofs.ExportingLemmas.{live-IsMap}
 use Rattle.query_docs.proofs.exporting.export_document.Goals as goal
 
 -- the labels are those of the site that was shown

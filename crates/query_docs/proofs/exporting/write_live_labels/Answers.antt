@@ -1,5 +1,5 @@
-use Rattle.query_docs.specs.Exported.{live_labels}
-use Rattle.query_docs.proofs.LiveLemmas.{live-IsMap}
+use Rattle.query_docs.specs.Exporting.{live_labels}
+use Rattle.query_docs.proofs.ExportingLemmas.{live-IsMap}
 use Rattle.query_docs.proofs.exporting.write_live_labels.Goals as goal
 
 -- the labels are those of the catalogue that was shown

@@ -2,7 +2,7 @@ use Rattle.std.proofs.Common.{◌∙◌, ◌+◌, List, ap, arith, drop, subst, 
 use Rattle.std.proofs.lemmas.List.{drop_all}
 use Rattle.std.specs.Prelude.{is_some}
 use Rattle.std.specs.FinMap.Entries.{find}
-use Rattle.cell_core.specs.Found.{with_key}
+use Rattle.cell_core.specs.KeyedFound.{with_key}
 use Rattle.cell_core.specs.Entry.{text_cmp}
 use Rattle.site_docs.specs.Sink.{IsLabelRef}
 use Rattle.query_docs.specs.LiveCells.{labels_of}

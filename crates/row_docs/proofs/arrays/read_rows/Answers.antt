@@ -3,9 +3,9 @@ use Rattle.std.proofs.Common.{length-append, refl}
 use Rattle.json.specs.Json.{parse_map, value}
 use Rattle.serde_json.specs.Data.{no_items}
 use Rattle.serde_json.specs.Read.{converted, of_json}
-use Rattle.json_docs.proofs.ReadingLemmas.{item_read, item_refused, items_over}
-use Rattle.json_docs.proofs.ArraysLemmas.{before, list_of-before, not_json, parse_map-none}
-use Rattle.json_docs.proofs.ArraysLemmas.{parse_map-push, TakesRows-next}
+use Rattle.json_docs.proofs.ScanningReadingLemmas.{item_read, item_refused, items_over}
+use Rattle.json_docs.proofs.ScanningArraysLemmas.{before, list_of-before, not_json, parse_map-none}
+use Rattle.json_docs.proofs.ScanningArraysLemmas.{parse_map-push, TakesRows-next}
 use Rattle.row_docs.proofs.arrays.read_rows.Goals as goal
 
 pub loop-alloc-init : goal.loop-alloc-init

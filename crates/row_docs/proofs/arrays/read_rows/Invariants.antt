@@ -2,9 +2,9 @@ use Rattle.std.proofs.Common.{◌≡◌, ◌≤◌, ◌+◌, ℕ, List, [], leng
 use Rattle.json.specs.Json.{items, parse_map, value}
 use Rattle.serde_json.specs.Data.{Data}
 use Rattle.serde_json.specs.Read.{converted, of_items}
-use Rattle.json_docs.specs.Arrays.{TakesRows}
+use Rattle.json_docs.specs.ScanningArrays.{TakesRows}
 use Rattle.json_docs.specs.Numbers.{are_in_range}
-use Rattle.json_docs.proofs.ArraysLemmas.{before}
+use Rattle.json_docs.proofs.ScanningArraysLemmas.{before}
 use Rattle.row_docs.proofs.arrays.read_rows.Given as goal
 
 -- the array is the rows that were read, and then what is left

@@ -4,7 +4,7 @@ use Rattle.std.specs.Prelude.{Some}
 use Rattle.cell_core.specs.Entry.{EntryKey}
 use Rattle.lang_core.specs.Lang.{IsLang}
 use Rattle.row_docs.specs.Fields.{IsLabelText}
-use Rattle.row_docs.specs.Valid.{IsKept}
+use Rattle.row_docs.specs.EntriesValid.{IsKept}
 use Rattle.row_docs.proofs.entries.write_entry.Goals as goal
 
 -- the texts that are written are those of the cell's label

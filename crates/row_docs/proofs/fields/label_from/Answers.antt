@@ -1,5 +1,5 @@
 use Rattle.std.proofs.Common.{◌∙◌, map, subst}
-use Rattle.json_docs.specs.Reads.{seen}
+use Rattle.json_docs.specs.ScanningReads.{seen}
 use Rattle.cell_core.specs.Fault.{RefusesLabel}
 use Rattle.row_docs.proofs.FieldsLemmas.{among-texts_in, label_cause}
 use Rattle.row_docs.proofs.fields.label_from.Goals as goal

@@ -3,8 +3,9 @@ use Rattle.std.proofs.lemmas.Result.{err_from_is_err_and}
 use Rattle.json.specs.Json.{read_key, value}
 use Rattle.json.proofs.Grammar.{read_key-shorter}
 use Rattle.serde_json.specs.Data.{no_members, put}
-use Rattle.json_docs.proofs.MembersLemmas.{not_skipped, range_after_key, skipped}
-use Rattle.json_docs.proofs.ReadingLemmas.{key_refused, member_read, member_refused, members_over}
+use Rattle.json_docs.proofs.ObjectMembersLemmas.{not_skipped, range_after_key, skipped}
+use Rattle.json_docs.proofs.ScanningReadingLemmas.{key_refused, member_read, member_refused}
+use Rattle.json_docs.proofs.ScanningReadingLemmas.{members_over}
 use Rattle.row_docs.proofs.header.pass_members.Goals as goal
 
 pub loop-reader-init : goal.loop-reader-init

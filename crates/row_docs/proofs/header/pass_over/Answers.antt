@@ -1,5 +1,5 @@
 use Rattle.std.proofs.Common.{refl}
-use Rattle.json_docs.proofs.MembersLemmas.{skipped}
+use Rattle.json_docs.proofs.ObjectMembersLemmas.{skipped}
 use Rattle.row_docs.proofs.header.pass_over.Goals as goal
 
 pub returns-in-Ok : goal.returns-in-Ok

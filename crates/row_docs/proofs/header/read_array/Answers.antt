@@ -4,9 +4,10 @@ use Rattle.json.specs.Reads.{token_of}
 use Rattle.json.specs.Token.{begin_array, begin_object}
 use Rattle.serde_json.specs.Data.{array, object}
 use Rattle.json_docs.specs.Parts.{list_of}
-use Rattle.json_docs.proofs.ArraysLemmas.{not_json}
-use Rattle.json_docs.proofs.MembersLemmas.{array_read, no_array, no_object, no_scalar, nothing_read}
-use Rattle.json_docs.proofs.MembersLemmas.{object_read, range_after, scalar_read}
+use Rattle.json_docs.proofs.ScanningArraysLemmas.{not_json}
+use Rattle.json_docs.proofs.ObjectMembersLemmas.{array_read, no_array, no_object, no_scalar}
+use Rattle.json_docs.proofs.ObjectMembersLemmas.{nothing_read}
+use Rattle.json_docs.proofs.ObjectMembersLemmas.{object_read, range_after, scalar_read}
 use Rattle.row_docs.proofs.header.read_array.Goals as goal
 
 pub returns-in_default : goal.returns-in_default

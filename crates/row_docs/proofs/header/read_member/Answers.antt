@@ -1,5 +1,5 @@
 use Rattle.std.proofs.Common.{◌∙◌}
-use Rattle.json_docs.proofs.MembersLemmas.{ok_weaker}
+use Rattle.json_docs.proofs.ObjectMembersLemmas.{ok_weaker}
 use Rattle.row_docs.proofs.HeadersLemmas.{Shows-kind, Shows-other, Shows-rows, Shows-subject}
 use Rattle.row_docs.proofs.HeadersLemmas.{Shows-version}
 use Rattle.row_docs.proofs.header.read_member.Goals as goal

@@ -3,8 +3,9 @@ use Rattle.std.proofs.lemmas.Result.{err_from_is_err_and}
 use Rattle.json.specs.Json.{read_key, value}
 use Rattle.json.proofs.Grammar.{read_key-shorter}
 use Rattle.serde_json.specs.Data.{no_members, put}
-use Rattle.json_docs.proofs.ArraysLemmas.{not_json}
-use Rattle.json_docs.proofs.ReadingLemmas.{key_refused, member_read, member_refused, members_over}
+use Rattle.json_docs.proofs.ScanningArraysLemmas.{not_json}
+use Rattle.json_docs.proofs.ScanningReadingLemmas.{key_refused, member_read, member_refused}
+use Rattle.json_docs.proofs.ScanningReadingLemmas.{members_over}
 use Rattle.row_docs.proofs.HeadersLemmas.{Shows-none}
 use Rattle.row_docs.proofs.header.read_members.Goals as goal
 

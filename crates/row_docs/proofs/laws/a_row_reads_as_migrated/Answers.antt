@@ -1,4 +1,4 @@
-use Rattle.row_docs.proofs.OldRowsLemmas.{cell_migrated}
+use Rattle.row_docs.proofs.ShapesMigrationLemmas.{cell_migrated}
 use Rattle.row_docs.proofs.laws.a_row_reads_as_migrated.Goals as goal
 
 pub returns : goal.returns

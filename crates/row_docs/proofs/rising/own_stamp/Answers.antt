@@ -1,4 +1,4 @@
-use Rattle.json_docs.specs.Reads.{seen}
+use Rattle.json_docs.specs.ScanningReads.{seen}
 use Rattle.row_docs.proofs.RisingLemmas.{own_stamp}
 use Rattle.row_docs.proofs.rising.own_stamp.Goals as goal
 

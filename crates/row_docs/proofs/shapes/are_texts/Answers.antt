@@ -1,5 +1,5 @@
 use Rattle.std.proofs.Common.{◌∙◌}
-use Rattle.json_docs.proofs.SeenLemmas.{is_some-texts_in}
+use Rattle.json_docs.proofs.PartsSeenLemmas.{is_some-texts_in}
 use Rattle.row_docs.proofs.shapes.are_texts.Goals as goal
 
 pub returns : goal.returns

@@ -1,6 +1,6 @@
 use Rattle.std.proofs.Common.{arith}
-use Rattle.json_docs.specs.Reads.{seen}
-use Rattle.row_docs.proofs.RowsLemmas.{cell_whole}
+use Rattle.json_docs.specs.ScanningReads.{seen}
+use Rattle.row_docs.proofs.ShapesRowsLemmas.{cell_whole}
 use Rattle.row_docs.proofs.shapes.cell_of.Goals as goal
 
 pub returns-clause-cell : goal.returns-clause-cell

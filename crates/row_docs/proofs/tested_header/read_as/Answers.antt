@@ -1,7 +1,7 @@
 use Rattle.std.proofs.Common.{inr}
 use Rattle.serde_json.specs.Data.{object}
-use Rattle.json_docs.proofs.MembersLemmas.{both_weaker}
-use Rattle.row_docs.proofs.TestsLemmas.{has_header, header_fails}
+use Rattle.json_docs.proofs.ObjectMembersLemmas.{both_weaker}
+use Rattle.row_docs.proofs.TestedHeaderLemmas.{has_header, header_fails}
 use Rattle.row_docs.proofs.tested_header.read_as.Goals as goal
 
 -- The text is an object, whose members the header shows: where the header passes they pass, and

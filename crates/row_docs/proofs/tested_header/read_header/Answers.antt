@@ -1,5 +1,5 @@
 use Rattle.std.proofs.lemmas.Result.{err_from_is_err_and}
-use Rattle.row_docs.proofs.TestsLemmas.{bytes_refused}
+use Rattle.row_docs.proofs.TestedHeaderLemmas.{bytes_refused}
 use Rattle.row_docs.proofs.tested_header.read_header.Goals as goal
 
 pub returns-in_err-tested : goal.returns-in_err-tested

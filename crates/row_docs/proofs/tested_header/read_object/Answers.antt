@@ -2,8 +2,8 @@ use Rattle.std.proofs.Common.{◌≡◌, ◌∙◌, ◌∷◌, ap, arith, length
 use Rattle.std.proofs.lemmas.Result.{err_from_is_err_and}
 use Rattle.json.specs.Lex.{tokens}
 use Rattle.json.specs.Token.{begin_object}
-use Rattle.json_docs.proofs.ArraysLemmas.{not_json}
-use Rattle.json_docs.proofs.WholeTextLemmas.{length-tokens, not_object, not_whole, object_whole}
+use Rattle.json_docs.proofs.ScanningArraysLemmas.{not_json}
+use Rattle.json_docs.proofs.TextWholeLemmas.{length-tokens, not_object, not_whole, object_whole}
 use Rattle.row_docs.proofs.tested_header.read_object.Goals as goal
 
 pub read_rest-requires-clause-places : goal.read_rest-requires-clause-places

@@ -1,7 +1,7 @@
 use Rattle.std.proofs.Common.{◌≡◌, ◌∙◌, [], ◌∷◌, ◌++◌, ap, append_assoc, subst, sym}
 use Rattle.std.specs.Prelude.{IsUtf8}
 use Rattle.json.specs.Print.{print}
-use Rattle.row_docs.proofs.TextsLemmas.{utf8_line}
+use Rattle.row_docs.proofs.WritingTextsLemmas.{utf8_line}
 use Rattle.row_docs.proofs.writing.finish.Goals as goal
 
 pub returns-clause-utf8 : goal.returns-clause-utf8

@@ -1,6 +1,6 @@
 use Rattle.std.proofs.Common.{◌≡◌, arith, length}
 use Rattle.std.proofs.Math.Seq.{take-length}
-use Rattle.row_docs.proofs.TextsLemmas.{Adds-then, array_closed, row_tokens-text}
+use Rattle.row_docs.proofs.WritingTextsLemmas.{Adds-then, array_closed, row_tokens-text}
 use Rattle.row_docs.proofs.writing.write_texts.Goals as goal
 
 -- one text more

@@ -1,7 +1,7 @@
 use Rattle.std.proofs.Common.{◌≡◌, ◌∙◌, ℕ, List, ap, subst, sym}
-use Rattle.script_docs.specs.FieldWritten.{field_text}
+use Rattle.script_docs.specs.FieldWriting.{field_text}
 use Rattle.script_docs.specs.StepFields.{Lists}
-use Rattle.script_docs.proofs.FieldWrittenLemmas.{listed_again}
+use Rattle.script_docs.proofs.FieldWritingLemmas.{listed_again}
 use Rattle.script_docs.proofs.field_writing.field_of.Goals as goal
 
 -- where some field reads as the list, this one does

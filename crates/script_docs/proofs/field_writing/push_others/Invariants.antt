@@ -1,6 +1,6 @@
 use Rattle.std.proofs.Common.{◌≡◌, [], ◌∷◌, ◌++◌, take}
 use Rattle.std.specs.Prelude.{flat_map, string_bytes}
-use Rattle.script_docs.specs.FieldWritten.{item_text}
+use Rattle.script_docs.specs.FieldWriting.{item_text}
 use Rattle.script_docs.proofs.field_writing.push_others.Given as goal
 
 -- the items so far, each after a comma

@@ -6,7 +6,7 @@ use Rattle.list_core.specs.Field.{RefusesField}
 use Rattle.list_core.specs.Item.{item_eq}
 use Rattle.list_core.specs.declared.field.Malformed.TheVariants.{Refused}
 use Rattle.script_docs.specs.StepFields.{Lists}
-use Rattle.script_docs.proofs.FieldWrittenLemmas.{lists_where_same, refused_lists_none}
+use Rattle.script_docs.proofs.FieldWritingLemmas.{lists_where_same, refused_lists_none}
 use Rattle.script_docs.proofs.field_writing.reads_as.Goals as goal
 
 -- a field is of one list

@@ -1,4 +1,4 @@
-use Rattle.script_docs.proofs.OneScript.{one_script}
+use Rattle.script_docs.proofs.ReadingOneScript.{one_script}
 use Rattle.script_docs.proofs.laws.one_script.Goals as goal
 
 pub returns : goal.returns

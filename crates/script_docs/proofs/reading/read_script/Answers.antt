@@ -1,4 +1,4 @@
-use Rattle.script_docs.specs.ScriptReads.{RefusesScript}
+use Rattle.script_docs.specs.Reading.{RefusesScript}
 use Rattle.row_docs.proofs.ReadersLemmas.{of_reader}
 use Rattle.script_docs.proofs.reading.read_script.Goals as goal
 

@@ -1,6 +1,6 @@
 use Rattle.std.proofs.Common.{ℕ, subst}
 use Rattle.row_docs.specs.Entries.{row_of}
-use Rattle.row_docs.specs.Texts.{Adds, value_tokens}
+use Rattle.row_docs.specs.WritingTexts.{Adds, value_tokens}
 use Rattle.script_docs.specs.Steps.{edit_step}
 use Rattle.script_docs.specs.StepsWritten.{edit_value}
 use Rattle.script_docs.proofs.StepsWrittenLemmas.{edit_row_of}

@@ -1,6 +1,6 @@
 use Rattle.std.proofs.Common.{◌≡◌, ◌∙◌, ℕ, List, subst, sym}
-use Rattle.row_docs.specs.Texts.{Adds, value_tokens}
-use Rattle.script_docs.specs.FieldWritten.{field_text}
+use Rattle.row_docs.specs.WritingTexts.{Adds, value_tokens}
+use Rattle.script_docs.specs.FieldWriting.{field_text}
 use Rattle.script_docs.specs.StepFields.{Lists}
 use Rattle.script_docs.specs.Steps.{filter_step}
 use Rattle.script_docs.specs.StepsWritten.{filter_value}

@@ -1,7 +1,7 @@
 use Rattle.std.proofs.Common.{◌≡◌, ◌∙◌, ℕ, List, subst, sym}
 use Rattle.list_core.specs.declared.scheme.Scheme.TheVariants.{Basic}
-use Rattle.row_docs.specs.Texts.{Adds, value_tokens}
-use Rattle.script_docs.specs.FieldWritten.{field_text}
+use Rattle.row_docs.specs.WritingTexts.{Adds, value_tokens}
+use Rattle.script_docs.specs.FieldWriting.{field_text}
 use Rattle.script_docs.specs.StepFields.{Lists}
 use Rattle.script_docs.specs.Steps.{lookup_step}
 use Rattle.script_docs.specs.StepsWritten.{lookup_value}

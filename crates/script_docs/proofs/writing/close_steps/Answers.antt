@@ -2,7 +2,7 @@ use Rattle.std.proofs.Common.{◌∙◌, ℕ, List, [], ◌∷◌, ◌++◌, ap�
 use Rattle.std.proofs.lemmas.Result.{IfOk-weaker}
 use Rattle.json.specs.Print.{print}
 use Rattle.json.specs.Token.{Token}
-use Rattle.script_docs.proofs.ScriptWrittenLemmas.{script_closed}
+use Rattle.script_docs.proofs.WritingLemmas.{script_closed}
 use Rattle.script_docs.proofs.writing.close_steps.Goals as goal
 
 pub returns-clause-text : goal.returns-clause-text

@@ -1,11 +1,11 @@
 use Rattle.std.proofs.Common.{◌≡◌, ◌∙◌, ℕ, List, ap, map, subst, sym}
 use Rattle.std.specs.Prelude.{IsUtf8}
-use Rattle.row_docs.specs.Texts.{text}
-use Rattle.script_docs.specs.ScriptReads.{ReadsAsScript}
-use Rattle.script_docs.specs.ScriptWritten.{script_value}
+use Rattle.row_docs.specs.WritingTexts.{text}
+use Rattle.script_docs.specs.Reading.{ReadsAsScript}
+use Rattle.script_docs.specs.Writing.{script_value}
 use Rattle.script_docs.specs.StepsWritten.{step_row, step_value}
 use Rattle.serde_json.specs.Data.{Data}
-use Rattle.script_docs.proofs.ScriptWrittenLemmas.{script_again}
+use Rattle.script_docs.proofs.WritingLemmas.{script_again}
 use Rattle.script_docs.proofs.StepsWrittenLemmas.{rows_written}
 use Rattle.script_docs.proofs.writing.script_document.Goals as goal
 

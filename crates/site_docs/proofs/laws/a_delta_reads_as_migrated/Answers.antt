@@ -1,4 +1,4 @@
-use Rattle.site_docs.proofs.OldDocumentsLemmas.{delta_migrated}
+use Rattle.site_docs.proofs.DocumentsMigrationLemmas.{delta_migrated}
 use Rattle.site_docs.proofs.laws.a_delta_reads_as_migrated.Goals as goal
 
 pub returns : goal.returns

@@ -1,4 +1,4 @@
-use Rattle.site_docs.proofs.RoundTrip.{delta_again}
+use Rattle.site_docs.proofs.WritingRoundTrip.{delta_again}
 use Rattle.site_docs.proofs.laws.written_delta_reads.Goals as goal
 
 pub returns : goal.returns

@@ -1,4 +1,4 @@
-use Rattle.text_docs.proofs.OrderLemmas.{one_byte_more}
+use Rattle.text_docs.proofs.IdOrderLemmas.{one_byte_more}
 use Rattle.text_docs.proofs.id_order.escaped_order.Goals as goal
 
 -- both are ordered as what comes after the byte that they have in common

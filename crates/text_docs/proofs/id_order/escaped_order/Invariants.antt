@@ -2,7 +2,7 @@ use Rattle.std.proofs.Common.{◌≡◌, List, ℕ, length}
 use Rattle.std.specs.List.{All}
 use Rattle.json.specs.Print.{escape}
 use Rattle.cell_core.specs.Entry.{text_cmp}
-use Rattle.text_docs.proofs.OrderLemmas.{IsIdByte}
+use Rattle.text_docs.proofs.IdOrderLemmas.{IsIdByte}
 use Rattle.text_docs.proofs.id_order.escaped_order.Given as goal
 
 -- what is left of both is ordered as both are

@@ -1,6 +1,6 @@
 use Rattle.std.proofs.Common.{◌∙◌, List, ℕ, ap, sym}
 use Rattle.cell_core.specs.Entry.{text_cmp}
-use Rattle.text_docs.proofs.OrderLemmas.{plain_is}
+use Rattle.text_docs.proofs.IdOrderLemmas.{plain_is}
 use Rattle.text_docs.proofs.id_order.order_of.Goals as goal
 
 -- where no backslash is written, the id is written as it is

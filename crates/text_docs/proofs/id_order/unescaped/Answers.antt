@@ -1,5 +1,5 @@
 use Rattle.std.proofs.Common.{◌∙◌, ◌∷◌, ap, sym}
-use Rattle.text_docs.proofs.OrderLemmas.{nothing_written, plain_front, read_after}
+use Rattle.text_docs.proofs.IdOrderLemmas.{nothing_written, plain_front, read_after}
 use Rattle.text_docs.proofs.id_order.unescaped.Goals as goal
 
 -- nothing is written for an empty text

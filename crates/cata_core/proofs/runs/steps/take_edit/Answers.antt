@@ -1,5 +1,5 @@
 use Rattle.std.proofs.Common.{[], ◌∷◌}
-use Rattle.cata_core.proofs.CataFaultLemmas.{of_cells}
+use Rattle.cata_core.proofs.SiteFaultLemmas.{of_cells}
 use Rattle.cata_core.proofs.runs.steps.take_edit.Goals as goal
 
 pub at_step-requires : goal.at_step-requires

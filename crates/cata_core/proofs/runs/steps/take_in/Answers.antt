@@ -1,4 +1,4 @@
-use Rattle.cata_core.proofs.CataFaultLemmas.{of_cells}
+use Rattle.cata_core.proofs.SiteFaultLemmas.{of_cells}
 use Rattle.cata_core.proofs.runs.steps.take_in.Goals as goal
 
 pub at_step-requires : goal.at_step-requires

@@ -1,6 +1,6 @@
 use Rattle.std.proofs.Common.{[], ◌∷◌, Some, sym, ◌∙◌, ap, subst}
-use Rattle.cata_core.specs.KnownLatest.{IsKnownLatest}
-use Rattle.cata_core.proofs.KnownLatestLemmas.{known_joined}
+use Rattle.cata_core.specs.LatestKnown.{IsKnownLatest}
+use Rattle.cata_core.proofs.LatestKnownLemmas.{known_joined}
 use Rattle.cata_core.proofs.site.Site.apply.Goals as goal
 
 pub invariant_of-self-2 : goal.invariant_of-self-2

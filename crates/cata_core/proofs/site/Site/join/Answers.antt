@@ -2,10 +2,10 @@ use Rattle.std.proofs.Common.{◌≡◌, true, sym, ◌∙◌, subst}
 use Rattle.std.specs.Result.{is_ok}
 use Rattle.catalogue.specs.Entries.{Agree}
 use Rattle.cata_core.specs.Site.{SiteState}
-use Rattle.cata_core.specs.KnownLatest.{IsKnownLatest}
-use Rattle.catalogue.specs.Latest.{latest_of}
-use Rattle.catalogue.proofs.JoinedLatestLemmas.{at_ok}
-use Rattle.cata_core.proofs.KnownLatestLemmas.{known_joined}
+use Rattle.cata_core.specs.LatestKnown.{IsKnownLatest}
+use Rattle.catalogue.specs.CatalogueLatest.{latest_of}
+use Rattle.catalogue.proofs.CatalogueJoinedLatestLemmas.{at_ok}
+use Rattle.cata_core.proofs.LatestKnownLemmas.{known_joined}
 use Rattle.cata_core.proofs.site.Site.join.Goals as goal
 use Rattle.cata_core.proofs.site.Site.join.Goals.{then-is_ok, else-is_ok}
 

@@ -1,7 +1,7 @@
 use Rattle.std.proofs.Common.{◌∙◌, ap}
-use Rattle.catalogue.specs.Latest.{latest_of}
+use Rattle.catalogue.specs.CatalogueLatest.{latest_of}
 use Rattle.cata_core.specs.Site.{SiteState}
-use Rattle.catalogue.proofs.LatestLemmas.{latest_is}
+use Rattle.catalogue.proofs.CatalogueLatestLemmas.{latest_is}
 use Rattle.cata_core.proofs.site.Site.last.Goals as goal
 
 pub returns-clause-latest : goal.returns-clause-latest

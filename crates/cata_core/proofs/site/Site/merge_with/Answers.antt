@@ -1,9 +1,9 @@
 use Rattle.std.proofs.Common.{◌≡◌, true, sym, ◌∙◌, subst}
 use Rattle.std.specs.Result.{is_ok}
-use Rattle.cata_core.specs.KnownLatest.{IsKnownLatest}
-use Rattle.catalogue.specs.Latest.{latest_of}
-use Rattle.catalogue.proofs.JoinedLatestLemmas.{at_ok}
-use Rattle.cata_core.proofs.KnownLatestLemmas.{known_joined}
+use Rattle.cata_core.specs.LatestKnown.{IsKnownLatest}
+use Rattle.catalogue.specs.CatalogueLatest.{latest_of}
+use Rattle.catalogue.proofs.CatalogueJoinedLatestLemmas.{at_ok}
+use Rattle.cata_core.proofs.LatestKnownLemmas.{known_joined}
 use Rattle.cata_core.proofs.site.Site.merge_with.Goals as goal
 use Rattle.cata_core.proofs.site.Site.merge_with.Goals.{then-is_ok, else-is_ok}
 

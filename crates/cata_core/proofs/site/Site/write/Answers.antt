@@ -3,11 +3,11 @@ use Rattle.std.specs.FinMap.Entries.{put}
 use Rattle.std.proofs.lemmas.Result.{err_from_is_err_and}
 use Rattle.cell_core.specs.Stamp.{IsAbove}
 use Rattle.cell_core.specs.Entry.{EntryKey, key_cmp}
-use Rattle.catalogue.specs.Latest.{latest_of}
+use Rattle.catalogue.specs.CatalogueLatest.{latest_of}
 use Rattle.cata_core.specs.Site.{SiteState}
-use Rattle.cata_core.proofs.CataFaultLemmas.{by_memory}
-use Rattle.catalogue.proofs.LatestLemmas.{latest_written}
-use Rattle.cata_core.proofs.OwnEditsLemmas.{own_agrees, own_joins}
+use Rattle.cata_core.proofs.SiteFaultLemmas.{by_memory}
+use Rattle.catalogue.proofs.CatalogueLatestLemmas.{latest_written}
+use Rattle.cata_core.proofs.SiteOwnEditsLemmas.{own_agrees, own_joins}
 use Rattle.cata_core.proofs.site.Site.write.Goals as goal
 
 pub returns-in_err-join_cell-clause-fault : goal.returns-in_err-join_cell-clause-fault

@@ -9,7 +9,7 @@ use Rattle.cata_core.specs.Delta.{Stamps}
 use Rattle.cell_core.specs.Entry.{EntryKey, key_cmp}
 use Rattle.catalogue.specs.Entries.{IsAboveAll}
 use Rattle.cata_core.specs.Summary.{SummaryState, stamps_of, entry_of}
-use Rattle.catalogue.proofs.LastKeysLemmas.{above_last}
+use Rattle.catalogue.proofs.PlacesLastKeysLemmas.{above_last}
 use Rattle.cata_core.proofs.summary.Summary.is_above_all.Goals as goal
 
 -- The key is above all keys of the summary just where it is above the last one, since they ascend.

@@ -3,7 +3,7 @@ use Rattle.cell_core.specs.Keyed.{IsMap}
 use Rattle.cell_core.specs.Entry.{key_cmp}
 use Rattle.catalogue.specs.Entries.{IsAboveAll}
 use Rattle.cata_core.specs.Summary.{SummaryState, stamps_of}
-use Rattle.catalogue.proofs.BehindLemmas.{IsMap-behind}
+use Rattle.catalogue.proofs.CatalogueAboveLemmas.{IsMap-behind}
 use Rattle.cata_core.proofs.SummaryListsLemmas.{entries_push}
 use Rattle.cata_core.proofs.summary.Summary.push.Goals as goal
 

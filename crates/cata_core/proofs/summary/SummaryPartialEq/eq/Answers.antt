@@ -4,7 +4,7 @@ use Rattle.std.specs.Cmp.{IsPartialEquivalence, partial_equiv_from_equiv}
 use Rattle.std.specs.Cmp.Lexicographic.{pointwise, nat_list_eq_equiv}
 use Rattle.cata_core.specs.SummaryEq.{summary_entry_eq, summary_eq}
 use Rattle.cata_core.specs.Summary.{stamps_of}
-use Rattle.cata_core.proofs.EqualSummariesLemmas.{pointwise_entries}
+use Rattle.cata_core.proofs.SummaryEqualLemmas.{pointwise_entries}
 use Rattle.cata_core.proofs.summary.SummaryPartialEq.eq.Goals as goal
 
 same : IsPartialEquivalence (pointwise nat_eq)

@@ -2,7 +2,7 @@ use Rattle.std.proofs.Common.{◌≡◌, [], ◌∷◌, subst}
 use Rattle.std.specs.Prelude.{OnOk, IfErr, IsOk}
 use Rattle.catalogue.specs.CataFault.{IsRefusal}
 use Rattle.catalogue.specs.Entries.{Entry, joined}
-use Rattle.catalogue.specs.Settled.{IsSettledIn}
+use Rattle.catalogue.specs.CatalogueSettled.{IsSettledIn}
 use Rattle.catalogue.proofs.catalogue.Catalogue.apply.Goals as goal
 
 pub returns-clause-ok : goal.returns-clause-ok

@@ -2,7 +2,7 @@ use Rattle.std.proofs.Common.{◌≡◌, ◌∙◌, ap, subst}
 use Rattle.std.proofs.lemmas.Result.{IfOk-weaker}
 use Rattle.nego_core.specs.Filtering.{IsFiltered, texts_of}
 use Rattle.catalogue.specs.Live.{live, languages}
-use Rattle.catalogue.specs.LentEntries.{labelled_of}
+use Rattle.catalogue.specs.EntriesBorrowed.{labelled_of}
 use Rattle.catalogue.specs.Asking.{picked, IsFilterAnswer}
 use Rattle.catalogue.proofs.catalogue.Catalogue.ask_filter.Goals as goal
 

@@ -5,8 +5,8 @@ use Rattle.std.specs.Ordering.{is_lt, ordering_then}
 use Rattle.cell_core.specs.Keyed.{IsMap}
 use Rattle.cell_core.specs.Entry.{EntryKey, key_cmp}
 use Rattle.catalogue.specs.Entries.{Entries, IsAboveAll}
-use Rattle.catalogue.proofs.LastKeysLemmas.{above_last, above_none}
-use Rattle.catalogue.proofs.NestedCataloguesLemmas.{IsMap-catalogue}
+use Rattle.catalogue.proofs.PlacesLastKeysLemmas.{above_last, above_none}
+use Rattle.catalogue.proofs.CatalogueNestedLemmas.{IsMap-catalogue}
 use Rattle.catalogue.proofs.catalogue.Catalogue.is_above_all.Goals as goal
 
 pub returns-in-Some : goal.returns-in-Some

@@ -1,9 +1,9 @@
 use Rattle.std.proofs.Common.{◌≡◌, length, sym, ◌∙◌, ap, subst}
-use Rattle.catalogue.specs.Flat.{flat}
+use Rattle.catalogue.specs.CatalogueFlat.{flat}
 use Rattle.catalogue.specs.Entries.{Agree, joined, Between}
-use Rattle.catalogue.specs.Nested.{IsCatalogue}
-use Rattle.catalogue.proofs.NestedCataloguesLemmas.{nested_agree, joined_catalogue, flat-joined}
-use Rattle.catalogue.proofs.NestedCataloguesLemmas.{between_catalogue, flat-between}
+use Rattle.catalogue.specs.CatalogueNested.{IsCatalogue}
+use Rattle.catalogue.proofs.CatalogueNestedLemmas.{nested_agree, joined_catalogue, flat-joined}
+use Rattle.catalogue.proofs.CatalogueNestedLemmas.{between_catalogue, flat-between}
 use Rattle.catalogue.proofs.catalogue.Catalogue.join.Goals as goal
 use Rattle.catalogue.proofs.catalogue.Catalogue.join.Goals.{in-Some, in-None}
 

@@ -2,16 +2,16 @@ use Rattle.std.proofs.Common.{◌≡◌, [], ◌∷◌, length, true, false, sym
 use Rattle.std.specs.FinMap.Entries.{find}
 use Rattle.cell_core.specs.Cell.{joined_cells}
 use Rattle.cell_core.specs.Keyed.{IsMap, joined_at}
-use Rattle.cell_core.specs.Places.{place_of}
+use Rattle.cell_core.specs.KeyedPlaces.{place_of}
 use Rattle.catalogue.specs.CataFault.{IsRefusal}
 use Rattle.catalogue.specs.CellRefusal.{IsCellRefusal, at_place}
 use Rattle.cell_core.specs.Entry.{key_cmp}
 use Rattle.catalogue.specs.Entries.{Entry, Agree, joined}
-use Rattle.catalogue.specs.Flat.{flat}
-use Rattle.catalogue.proofs.ApplyLemmas.{agree_only, joined_only}
+use Rattle.catalogue.specs.CatalogueFlat.{flat}
+use Rattle.catalogue.proofs.CatalogueApplyLemmas.{agree_only, joined_only}
 use Rattle.catalogue.proofs.CellRefusalLemmas.{refused_at}
-use Rattle.catalogue.proofs.NestedCataloguesLemmas.{IsMap-catalogue}
-use Rattle.catalogue.proofs.WrittenLemmas.{length_written}
+use Rattle.catalogue.proofs.CatalogueNestedLemmas.{IsMap-catalogue}
+use Rattle.catalogue.proofs.CatalogueWrittenLemmas.{length_written}
 use Rattle.catalogue.proofs.catalogue.Catalogue.join_cell.Goals as goal
 use Rattle.catalogue.proofs.catalogue.Catalogue.join_cell.Goals.{then-is_new, in-Some, in-None}
 use Rattle.catalogue.proofs.catalogue.Catalogue.join_cell.Goals.{else-is_new}

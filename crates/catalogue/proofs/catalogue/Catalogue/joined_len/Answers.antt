@@ -1,10 +1,10 @@
 use Rattle.std.proofs.Common.{◌+◌, length, sym, ◌∙◌, ap, subst}
 use Rattle.cell_core.specs.Keyed.{IsMap}
-use Rattle.catalogue.specs.Counts.{count_absent}
+use Rattle.catalogue.specs.CatalogueCounts.{count_absent}
 use Rattle.cell_core.specs.Entry.{key_cmp}
 use Rattle.catalogue.specs.Entries.{joined}
-use Rattle.catalogue.proofs.JoinedCountsLemmas.{length_joined, if_some_of}
-use Rattle.catalogue.proofs.NestedCataloguesLemmas.{IsMap-catalogue}
+use Rattle.catalogue.proofs.CatalogueJoinedCountsLemmas.{length_joined, if_some_of}
+use Rattle.catalogue.proofs.CatalogueNestedLemmas.{IsMap-catalogue}
 use Rattle.catalogue.proofs.catalogue.Catalogue.joined_len.Goals as goal
 
 pub returns : goal.returns

@@ -1,7 +1,7 @@
 use Rattle.std.proofs.Common.{subst}
 use Rattle.cell_core.specs.Keyed.{IsMap}
 use Rattle.cell_core.specs.Entry.{key_cmp}
-use Rattle.catalogue.proofs.NestedCataloguesLemmas.{IsMap-catalogue}
+use Rattle.catalogue.proofs.CatalogueNestedLemmas.{IsMap-catalogue}
 use Rattle.catalogue.proofs.catalogue.Catalogue.len.Goals as goal
 
 pub returns-clause-sorted : goal.returns-clause-sorted

@@ -1,5 +1,5 @@
 use Rattle.std.proofs.Common.{◌+◌, length, ◌∙◌, ap}
-use Rattle.catalogue.proofs.JoinedCountsLemmas.{if_some_of}
+use Rattle.catalogue.proofs.CatalogueJoinedCountsLemmas.{if_some_of}
 use Rattle.catalogue.proofs.catalogue.Catalogue.next_len.Goals as goal
 
 pub returns : goal.returns

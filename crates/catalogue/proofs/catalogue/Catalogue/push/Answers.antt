@@ -1,8 +1,8 @@
 use Rattle.std.proofs.Common.{◌+◌, [], ◌∷◌, ◌++◌, length, sym, ◌∙◌, ap, subst}
 use Rattle.cell_core.specs.Entry.{EntryKey}
 use Rattle.catalogue.specs.Entries.{Entries, IsAboveAll}
-use Rattle.catalogue.specs.Flat.{flat}
-use Rattle.catalogue.proofs.BehindLemmas.{put_behind, length_behind}
+use Rattle.catalogue.specs.CatalogueFlat.{flat}
+use Rattle.catalogue.proofs.CatalogueAboveLemmas.{put_behind, length_behind}
 use Rattle.catalogue.proofs.catalogue.Catalogue.push.Goals as goal
 
 -- the old cells and then this one

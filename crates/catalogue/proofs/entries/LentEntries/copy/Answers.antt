@@ -1,7 +1,7 @@
 use Rattle.std.proofs.Common.{◌∙◌, ap, [], ◌∷◌, ◌++◌}
 use Rattle.std.proofs.lemmas.List.{take_all}
-use Rattle.catalogue.specs.LentEntries.{weighed_of}
-use Rattle.catalogue.proofs.LentListsLemmas.{weighed_more}
+use Rattle.catalogue.specs.EntriesBorrowed.{weighed_of}
+use Rattle.catalogue.proofs.EntriesBorrowedLemmas.{weighed_more}
 use Rattle.catalogue.proofs.entries.LentEntries.copy.Goals as goal
 
 pub loop-lang-preserved : goal.loop-lang-preserved

@@ -1,5 +1,5 @@
 use Rattle.std.proofs.Common.{◌≡◌, take}
-use Rattle.catalogue.specs.LentEntries.{weighed_of}
+use Rattle.catalogue.specs.EntriesBorrowed.{weighed_of}
 use Rattle.catalogue.proofs.entries.LentEntries.copy.Given as goal
 
 abbrev pub invariant-loop-lang : goal.invariant-loop-lang

@@ -2,7 +2,7 @@ use Rattle.std.proofs.Common.{sym, subst}
 use Rattle.cell_core.specs.Keyed.{IsMap}
 use Rattle.cell_core.specs.Entry.{text_cmp}
 use Rattle.catalogue.specs.Live.{live_of}
-use Rattle.catalogue.specs.Nested.{Inner}
+use Rattle.catalogue.specs.CatalogueNested.{Inner}
 use Rattle.catalogue.proofs.MessagesLemmas.{live_of-IsMap}
 use Rattle.catalogue.proofs.labels.Labels.new.Goals as goal
 

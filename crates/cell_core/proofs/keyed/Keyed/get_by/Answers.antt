@@ -1,10 +1,10 @@
 use Rattle.std.proofs.Common.{◌≡◌, Vec, Global, Some, get_or, sym, ap, ◌∙◌, subst}
 use Rattle.std.specs.FinMap.Entries.{find}
-use Rattle.cell_core.specs.Found.{with_key}
+use Rattle.cell_core.specs.KeyedFound.{with_key}
 use Rattle.cell_core.specs.Keyed.{IsMap}
 use Rattle.cell_core.specs.Chunks.{IsChunkFor}
 use Rattle.cell_core.proofs.ChunkLemmas.{chunk_map, find-chunk}
-use Rattle.cell_core.proofs.PlaceLemmas.{entry_at_place}
+use Rattle.cell_core.proofs.KeyedPlacesLemmas.{entry_at_place}
 use Rattle.cell_core.proofs.keyed.Keyed.get_by.Goals as goal
 
 pub bisect-requires : goal.bisect-requires

@@ -3,11 +3,11 @@ use Rattle.std.proofs.Common.{length-set}
 use Rattle.std.specs.Vec.{with_item}
 use Rattle.std.specs.FinMap.Entries.{find, put}
 use Rattle.cell_core.specs.Keyed.{IsMap}
-use Rattle.cell_core.specs.Places.{IsPlace}
+use Rattle.cell_core.specs.KeyedPlaces.{IsPlace}
 use Rattle.cell_core.specs.Chunks.{all_of, IsPlaceIn}
-use Rattle.cell_core.proofs.PlaceLemmas.{set_as_put, find_read, lent_as}
+use Rattle.cell_core.proofs.KeyedPlacesLemmas.{set_as_put, find_read, lent_as}
 use Rattle.cell_core.proofs.ChunkLemmas.{chunked_put, find-chunk}
-use Rattle.cell_core.proofs.RunLemmas.{length_with}
+use Rattle.cell_core.proofs.ChunkJoinsRunLemmas.{length_with}
 use Rattle.cell_core.proofs.keyed.Keyed.get_mut.Goals as goal
 
 -- Whatever is written there, the map stays in order and its count right: the value of a key that is

@@ -1,7 +1,7 @@
 use Rattle.std.proofs.Common.{◌≡◌, sym, ap, ◌∙◌, subst}
-use Rattle.cell_core.specs.Above.{IsAboveAll}
+use Rattle.cell_core.specs.KeyedAbove.{IsAboveAll}
 use Rattle.cell_core.specs.Chunks.{all_of}
-use Rattle.cell_core.proofs.AboveLemmas.{above_gap}
+use Rattle.cell_core.proofs.KeyedAboveLemmas.{above_gap}
 use Rattle.cell_core.proofs.keyed.Keyed.is_above_all.Goals as goal
 
 pub returns : goal.returns

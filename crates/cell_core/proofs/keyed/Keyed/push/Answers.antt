@@ -1,8 +1,8 @@
 use Rattle.std.proofs.Common.{[], ◌∷◌, ◌++◌, sym, ap, ◌∙◌, subst, refl}
-use Rattle.cell_core.specs.Above.{IsAboveAll}
+use Rattle.cell_core.specs.KeyedAbove.{IsAboveAll}
 use Rattle.cell_core.specs.Chunks.{entries_of}
-use Rattle.cell_core.proofs.AboveLemmas.{gap_above, on_ok_then}
-use Rattle.cell_core.proofs.PlaceLemmas.{push_as_put}
+use Rattle.cell_core.proofs.KeyedAboveLemmas.{gap_above, on_ok_then}
+use Rattle.cell_core.proofs.KeyedPlacesLemmas.{push_as_put}
 use Rattle.cell_core.proofs.keyed.Keyed.push.Goals as goal
 
 pub append-requires : goal.append-requires

@@ -3,7 +3,7 @@ use Rattle.std.proofs.lemmas.Result.{on_ok_weaker}
 use Rattle.std.proofs.lemmas.Bool.Decides.{nat_tests}
 use Rattle.cell_core.specs.Keyed.{IsMap, IsJoinedWith, joined_maps}
 use Rattle.cell_core.specs.Chunks.{all_of}
-use Rattle.cell_core.proofs.RunLemmas.{joined_is, joined_to_none}
+use Rattle.cell_core.proofs.ChunkJoinsRunLemmas.{joined_is, joined_to_none}
 use Rattle.cell_core.proofs.InterleaveLemmas.{empty_of}
 use Rattle.cell_core.proofs.keyed.KeyedJoin.join.Goals as goal
 

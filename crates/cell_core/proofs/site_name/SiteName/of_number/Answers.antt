@@ -3,8 +3,9 @@ use Rattle.std.proofs.Math.ListN.{length-set}
 use Rattle.cell_core.specs.SiteName.{KeepsName, padded_name}
 use Rattle.cell_core.specs.ZeroPadded.{zero_padded, before_zeros}
 use Rattle.cell_core.proofs.SiteNameLemmas.{KeepsName-padded, before_zeros-name}
-use Rattle.cell_core.proofs.PaddedNameLemmas.{last_digits, digit_written, padded_name-last_digits}
-use Rattle.cell_core.proofs.PaddedNameLemmas.{IsSiteName-padded_name}
+use Rattle.cell_core.proofs.SiteNamePaddedLemmas.{last_digits, digit_written}
+use Rattle.cell_core.proofs.SiteNamePaddedLemmas.{padded_name-last_digits}
+use Rattle.cell_core.proofs.SiteNamePaddedLemmas.{IsSiteName-padded_name}
 use Rattle.cell_core.proofs.site_name.SiteName.of_number.Goals as goal
 
 pub loop-at-preserved : goal.loop-at-preserved

@@ -1,5 +1,5 @@
 use Rattle.std.proofs.Common.{◌≡◌, ◌++◌, drop, length}
-use Rattle.cell_core.proofs.PaddedNameLemmas.{last_digits}
+use Rattle.cell_core.proofs.SiteNamePaddedLemmas.{last_digits}
 use Rattle.cell_core.proofs.site_name.SiteName.of_number.Given as goal
 
 -- the later digits are written, and those of the rest are to come

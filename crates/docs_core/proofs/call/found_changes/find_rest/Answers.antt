@@ -1,5 +1,5 @@
 use Rattle.std.proofs.Common.{ap}
-use Rattle.map_docs.specs.LangMaps.{labels_of}
+use Rattle.map_docs.specs.Maps.{labels_of}
 use Rattle.docs_core.specs.FoundChanges.{changes_of}
 use Rattle.docs_core.specs.Revised.{key_of}
 use Rattle.std.specs.Prelude.{None}

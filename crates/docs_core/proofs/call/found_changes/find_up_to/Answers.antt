@@ -1,7 +1,7 @@
 use Rattle.std.proofs.Common.{◌≡◌, None, ap, sym}
 use Rattle.std.specs.declared.cmp.Ordering.TheVariants.{Less}
 use Rattle.cell_core.specs.Entry.{key_cmp}
-use Rattle.map_docs.specs.LangMaps.{labels_of}
+use Rattle.map_docs.specs.Maps.{labels_of}
 use Rattle.site_docs.specs.Sink.{entry_of}
 use Rattle.docs_core.specs.FoundChanges.{changes_of}
 use Rattle.docs_core.specs.Revised.{key_of}

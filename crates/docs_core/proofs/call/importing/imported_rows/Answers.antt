@@ -1,11 +1,11 @@
 use Rattle.std.proofs.Common.{◌∙◌, [], List, inl, inr, refl, subst, sym, ℕ}
 use Rattle.std.proofs.lemmas.Option.{IfSome_then}
 use Rattle.std.proofs.lemmas.Result.{err_from_is_err_and}
-use Rattle.catalogue.specs.Latest.{latest_of}
+use Rattle.catalogue.specs.CatalogueLatest.{latest_of}
 use Rattle.cata_core.specs.Site.{SiteState}
-use Rattle.site_docs.specs.ReadsAs.{ReadsAsSite}
-use Rattle.map_docs.proofs.LangMapLabelsLemmas.{else_by}
-use Rattle.docs_core.specs.Imported.{puts_of}
+use Rattle.site_docs.specs.Reading.{ReadsAsSite}
+use Rattle.map_docs.proofs.MapsLabelsLemmas.{else_by}
+use Rattle.docs_core.specs.ImportingLabels.{puts_of}
 use Rattle.docs_core.proofs.StampedRowsLemmas.{stamped_same}
 use Rattle.docs_core.proofs.call.importing.imported_rows.Goals as goal
 

@@ -1,11 +1,11 @@
 use Rattle.std.proofs.Common.{◌∙◌, ℕ, List, ap, subst}
 use Rattle.cell_core.specs.Stamp.{IsNext, NoNext}
-use Rattle.catalogue.specs.Latest.{latest_of}
+use Rattle.catalogue.specs.CatalogueLatest.{latest_of}
 use Rattle.cata_core.specs.Site.{SiteState}
-use Rattle.map_docs.specs.LangMaps.{Labelled}
-use Rattle.docs_core.specs.Imported.{SpendsImport}
-use Rattle.map_docs.proofs.LangMapLabelsLemmas.{else_by}
-use Rattle.docs_core.proofs.ImportedLemmas.{Imports-push, SpendsImport-here, not_put, some_put}
+use Rattle.map_docs.specs.Maps.{Labelled}
+use Rattle.docs_core.specs.ImportingLabels.{SpendsImport}
+use Rattle.map_docs.proofs.MapsLabelsLemmas.{else_by}
+use Rattle.docs_core.proofs.ImportingLemmas.{Imports-push, SpendsImport-here, not_put, some_put}
 use Rattle.docs_core.proofs.call.importing.put_labels.Goals as goal
 
 -- The put was refused: no memory, or no stamp follows for this label; since those before it were

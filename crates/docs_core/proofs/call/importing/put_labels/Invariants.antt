@@ -1,6 +1,6 @@
 use Rattle.std.proofs.Common.{◌≡◌, take}
-use Rattle.map_docs.specs.LangMaps.{labels_of}
-use Rattle.docs_core.specs.Imported.{Imports}
+use Rattle.map_docs.specs.Maps.{labels_of}
+use Rattle.docs_core.specs.ImportingLabels.{Imports}
 use Rattle.docs_core.proofs.call.importing.put_labels.Given as goal
 
 -- the labels so far are put

@@ -5,10 +5,10 @@ use Rattle.std.proofs.lemmas.Option.{IfSome_then}
 use Rattle.cell_core.specs.Keyed.{IsMap}
 use Rattle.cell_core.specs.declared.stamp.Stamp.{Stamp}
 use Rattle.cell_core.specs.Entry.{key_cmp}
-use Rattle.site_docs.specs.ReadsAs.{ReadsAsSite}
-use Rattle.map_docs.specs.LangMaps.{Labelled, labels_of}
+use Rattle.site_docs.specs.Reading.{ReadsAsSite}
+use Rattle.map_docs.specs.Maps.{Labelled, labels_of}
 use Rattle.map_docs.specs.declared.maps.KeyedLabel.{KeyedLabel}
-use Rattle.docs_core.specs.Imported.{Imports, puts_of}
+use Rattle.docs_core.specs.ImportingLabels.{Imports, puts_of}
 use Rattle.docs_core.specs.StampedRows.{HoldsStamped}
 use Rattle.docs_core.proofs.StampedRowsLemmas.{above_taken, puts_above, puts_more}
 use Rattle.docs_core.proofs.StampedRowsLemmas.{taken_more}

@@ -1,6 +1,6 @@
 use Rattle.std.proofs.Common.{◌≡◌, take}
-use Rattle.map_docs.specs.LangMaps.{labels_of}
-use Rattle.docs_core.specs.Imported.{puts_of}
+use Rattle.map_docs.specs.Maps.{labels_of}
+use Rattle.docs_core.specs.ImportingLabels.{puts_of}
 use Rattle.docs_core.specs.StampedRows.{HoldsStamped}
 use Rattle.docs_core.proofs.call.importing.with_labels.Given as goal
 

@@ -4,7 +4,8 @@ use Rattle.std.specs.Ordering.{ordering_then}
 use Rattle.cell_core.specs.Entry.{EntryKey, key_cmp}
 use Rattle.cata_core.proofs.SummaryListsLemmas.{not_greater_self}
 use Rattle.docs_core.proofs.LackedRowsLemmas.{drop_at, drop_past, drop_sorted}
-use Rattle.docs_core.proofs.PassedLemmas.{absent_first, found_first, found_passed, passed_less}
+use Rattle.docs_core.proofs.LackedRowsPassedLemmas.{absent_first, found_first, found_passed}
+use Rattle.docs_core.proofs.LackedRowsPassedLemmas.{passed_less}
 use Rattle.docs_core.proofs.call.lacked_rows.stamp_at.Goals as goal
 
 pub loop-place-init : goal.loop-place-init

@@ -1,4 +1,4 @@
-use Rattle.json_docs.proofs.MembersLemmas.{ok_weaker}
+use Rattle.json_docs.proofs.ObjectMembersLemmas.{ok_weaker}
 use Rattle.docs_core.proofs.call.latest_stamp.latest_stamp.Goals as goal
 
 -- that of all cells that were shown

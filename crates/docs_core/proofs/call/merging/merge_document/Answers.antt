@@ -1,6 +1,6 @@
 use Rattle.std.proofs.Common.{◌<◌, ◌^◌, arith, length, subst, sym}
 use Rattle.catalogue.specs.Entries.{Entries}
-use Rattle.docs_core.proofs.RowsFit.{site_fits}
+use Rattle.docs_core.proofs.TimeLimitsRowsFit.{site_fits}
 use Rattle.docs_core.proofs.call.merging.merge_document.Goals as goal
 
 pub check_times-requires : goal.check_times-requires

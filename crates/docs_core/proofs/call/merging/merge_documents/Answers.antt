@@ -1,9 +1,10 @@
 use Rattle.std.proofs.Common.{◌∙◌, ◌+◌, ap, arith, refl}
 use Rattle.std.proofs.lemmas.Result.{err_from_is_err_and}
-use Rattle.map_docs.proofs.LangMapLabelsLemmas.{else_by}
+use Rattle.map_docs.proofs.MapsLabelsLemmas.{else_by}
 use Rattle.docs_core.specs.Lines.{lines_left}
-use Rattle.docs_core.proofs.MergedLemmas.{first_refused, merge_goes_on, merge_refused, merge_starts}
-use Rattle.docs_core.proofs.MergedLemmas.{next_fits}
+use Rattle.docs_core.proofs.MergingLemmas.{first_refused, merge_goes_on, merge_refused}
+use Rattle.docs_core.proofs.MergingLemmas.{merge_starts}
+use Rattle.docs_core.proofs.MergingLemmas.{next_fits}
 use Rattle.docs_core.proofs.call.merging.merge_documents.Goals as goal
 
 pub returns-in_err-site : goal.returns-in_err-site

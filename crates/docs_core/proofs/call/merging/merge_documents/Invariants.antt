@@ -1,5 +1,5 @@
 use Rattle.docs_core.specs.Lines.{lines_left}
-use Rattle.docs_core.proofs.MergedLemmas.{IsMergedTo}
+use Rattle.docs_core.proofs.MergingLemmas.{IsMergedTo}
 use Rattle.docs_core.proofs.call.merging.merge_documents.Given as goal
 
 -- the documents before the lines that are left are merged

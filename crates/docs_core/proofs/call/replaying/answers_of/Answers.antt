@@ -1,4 +1,4 @@
-use Rattle.docs_core.proofs.ReplayLemmas.{played_or_refused}
+use Rattle.docs_core.proofs.ReplayingLemmas.{played_or_refused}
 use Rattle.docs_core.proofs.call.replaying.answers_of.Goals as goal
 
 pub returns : goal.returns

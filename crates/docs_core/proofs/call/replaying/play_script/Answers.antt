@@ -1,5 +1,5 @@
 use Rattle.std.proofs.lemmas.Result.{err_from_is_err_and}
-use Rattle.docs_core.proofs.ReplayLemmas.{steps_refused}
+use Rattle.docs_core.proofs.ReplayingLemmas.{steps_refused}
 use Rattle.docs_core.proofs.call.replaying.play_script.Goals as goal
 
 pub returns-in_err-answers : goal.returns-in_err-answers

@@ -1,6 +1,6 @@
 use Rattle.std.proofs.Common.{inl, inr, refl}
 use Rattle.std.proofs.lemmas.Result.{err_from_is_err_and}
-use Rattle.docs_core.proofs.ReplayLemmas.{not_written, written}
+use Rattle.docs_core.proofs.ReplayingLemmas.{not_written, written}
 use Rattle.docs_core.proofs.call.replaying.replay.Goals as goal
 
 -- nothing was written before

@@ -1,7 +1,7 @@
 use Rattle.std.proofs.Common.{◌≡◌, Bool, subst, sym}
 use Rattle.std.specs.Bool.{Decides}
 use Rattle.std.specs.Prelude.{option_map}
-use Rattle.docs_core.proofs.UpdatedLemmas.{borrowed_decides}
+use Rattle.docs_core.proofs.UpdatingLemmas.{borrowed_decides}
 use Rattle.docs_core.proofs.call.revised.are_equal.Goals as goal
 
 pub returns : goal.returns

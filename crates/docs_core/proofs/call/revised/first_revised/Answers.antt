@@ -1,10 +1,10 @@
 use Rattle.std.proofs.Common.{◌≡◌, List, ◌∷◌, subst, sym}
 use Rattle.cell_core.specs.Keyed.{IsMap}
 use Rattle.cell_core.specs.Entry.{EntryKey, key_cmp}
-use Rattle.map_docs.specs.LangMaps.{labels_of}
+use Rattle.map_docs.specs.Maps.{labels_of}
 use Rattle.map_docs.specs.declared.maps.KeyedLabel.{KeyedLabel}
 use Rattle.docs_core.specs.Revised.{IsFirstRevised}
-use Rattle.docs_core.proofs.UpdatedLemmas.{first_added, first_kept, first_removed}
+use Rattle.docs_core.proofs.UpdatingLemmas.{first_added, first_kept, first_removed}
 use Rattle.docs_core.proofs.call.revised.first_revised.Goals as goal
 use Rattle.docs_core.proofs.call.revised.first_revised.Goals.{in-Equal, in-Greater, in-Less}
 

@@ -1,7 +1,7 @@
 use Rattle.std.proofs.Common.{◌≡◌, ◌∙◌, [], ◌∷◌, Some, ap, option_map, string_bytes, sym}
 use Rattle.std.proofs.lemmas.Slice.Eq.{bytes_eq-Decides}
 use Rattle.cell_core.specs.Label.{texts_of}
-use Rattle.docs_core.proofs.UpdatedLemmas.{one_of}
+use Rattle.docs_core.proofs.UpdatingLemmas.{one_of}
 use Rattle.docs_core.proofs.call.revised.is_text.Goals as goal
 
 -- the label has one text, which is this one or another

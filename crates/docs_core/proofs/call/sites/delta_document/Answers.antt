@@ -2,7 +2,7 @@ use Rattle.std.proofs.Common.{List, subst, ℕ}
 use Rattle.cata_core.specs.Delta.{delta_of}
 use Rattle.cata_core.specs.Summary.{SummaryState}
 use Rattle.row_docs.specs.Reading.{IsOfDocument}
-use Rattle.site_docs.specs.ReadsAs.{IsDeltaText, RefusesSummary}
+use Rattle.site_docs.specs.Reading.{IsDeltaText, RefusesSummary}
 use Rattle.docs_core.specs.LackedRows.{HoldsLacked}
 use Rattle.docs_core.proofs.CallsLemmas.{refused_after}
 use Rattle.docs_core.proofs.call.sites.delta_document.Goals as goal

@@ -1,6 +1,6 @@
 use Rattle.std.proofs.Common.{◌<◌, ◌^◌, arith, length, subst, sym}
 use Rattle.catalogue.specs.Entries.{Entries}
-use Rattle.docs_core.proofs.RowsFit.{delta_fits}
+use Rattle.docs_core.proofs.TimeLimitsRowsFit.{delta_fits}
 use Rattle.docs_core.proofs.call.time_limits.delta_until.Goals as goal
 
 pub check_times-requires : goal.check_times-requires

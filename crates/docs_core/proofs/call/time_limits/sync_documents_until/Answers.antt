@@ -4,13 +4,13 @@ use Rattle.std.proofs.lemmas.Result.{err_from_is_err_and}
 use Rattle.catalogue.specs.CataFault.{IsRefusal}
 use Rattle.catalogue.specs.Entries.{Entries, joined}
 use Rattle.row_docs.specs.Reading.{IsOfDocument}
-use Rattle.site_docs.specs.ReadsAs.{IsSiteText, RefusesSite}
-use Rattle.map_docs.proofs.LangMapLabelsLemmas.{else_by}
+use Rattle.site_docs.specs.Reading.{IsSiteText, RefusesSite}
+use Rattle.map_docs.proofs.MapsLabelsLemmas.{else_by}
 use Rattle.docs_core.specs.JoinedRows.{HoldsJoined}
 use Rattle.site_docs.specs.RowsInTime.{AreInTime, IsTimeAhead}
 use Rattle.docs_core.specs.declared.call.joined_rows.JoinedRows.{JoinedRows}
 use Rattle.docs_core.proofs.CallsLemmas.{of_call, refused_after}
-use Rattle.docs_core.proofs.RowsFit.{site_fits}
+use Rattle.docs_core.proofs.TimeLimitsRowsFit.{site_fits}
 use Rattle.docs_core.proofs.call.time_limits.sync_documents_until.Goals as goal
 
 pub check_times-requires : goal.check_times-requires

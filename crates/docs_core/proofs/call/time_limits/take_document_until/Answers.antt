@@ -2,7 +2,7 @@ use Rattle.std.proofs.Common.{◌∙◌, inl, inr, subst}
 use Rattle.std.proofs.lemmas.Result.{err_from_is_err_and}
 use Rattle.catalogue.specs.Entries.{Entries}
 use Rattle.cata_core.specs.Site.{RefusesDelta, SiteState}
-use Rattle.map_docs.proofs.LangMapLabelsLemmas.{else_by}
+use Rattle.map_docs.proofs.MapsLabelsLemmas.{else_by}
 use Rattle.docs_core.specs.JoinedRows.{HoldsJoined}
 use Rattle.docs_core.specs.TimeLimits.{RefusesDeltaUntil}
 use Rattle.docs_core.proofs.CallsLemmas.{of_call, refused_after, refuses_addressee, refuses_cells}

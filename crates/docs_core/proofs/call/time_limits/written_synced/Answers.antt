@@ -1,7 +1,7 @@
 use Rattle.std.proofs.Common.{◌∙◌, List, Option, ap, subst, sym, ℕ}
 use Rattle.std.proofs.lemmas.Option.{IfSome_then}
 use Rattle.cata_core.specs.Site.{SiteState}
-use Rattle.site_docs.specs.ReadsAs.{ReadsAsSite}
+use Rattle.site_docs.specs.Reading.{ReadsAsSite}
 use Rattle.docs_core.specs.SyncedRows.{HoldsSynced}
 use Rattle.site_docs.specs.RowsInTime.{AreInTime}
 use Rattle.docs_core.specs.declared.call.synced_rows.SyncedRows.{SyncedRows}

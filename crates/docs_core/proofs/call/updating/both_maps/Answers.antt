@@ -1,6 +1,6 @@
 use Rattle.std.proofs.Common.{inr}
 use Rattle.std.proofs.lemmas.Result.{err_from_is_err_and}
-use Rattle.map_docs.proofs.LangMapLabelsLemmas.{else_by}
+use Rattle.map_docs.proofs.MapsLabelsLemmas.{else_by}
 use Rattle.docs_core.proofs.call.updating.both_maps.Goals as goal
 
 -- the old ones were read, and the new ones are refused

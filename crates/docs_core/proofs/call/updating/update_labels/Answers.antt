@@ -1,12 +1,12 @@
 use Rattle.std.proofs.Common.{◌∙◌, ℕ, List, ap, subst}
 use Rattle.cell_core.specs.Stamp.{NoNext}
-use Rattle.catalogue.specs.Latest.{latest_of}
+use Rattle.catalogue.specs.CatalogueLatest.{latest_of}
 use Rattle.cata_core.specs.Site.{SiteState}
-use Rattle.map_docs.specs.LangMaps.{labels_of}
+use Rattle.map_docs.specs.Maps.{labels_of}
 use Rattle.docs_core.specs.Revised.{IsRevised}
-use Rattle.map_docs.proofs.LangMapLabelsLemmas.{else_by}
-use Rattle.docs_core.proofs.UpdatedLemmas.{SpendsUpdate-here, front_done, front_left, front_next}
-use Rattle.docs_core.proofs.UpdatedLemmas.{front_spends}
+use Rattle.map_docs.proofs.MapsLabelsLemmas.{else_by}
+use Rattle.docs_core.proofs.UpdatingLemmas.{SpendsUpdate-here, front_done, front_left, front_next}
+use Rattle.docs_core.proofs.UpdatingLemmas.{front_spends}
 use Rattle.docs_core.proofs.call.updating.update_labels.Goals as goal
 
 -- No memory, or no stamp follows for this key's change; since the keys before it are done, the

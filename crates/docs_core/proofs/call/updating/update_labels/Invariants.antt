@@ -1,8 +1,8 @@
 use Rattle.std.proofs.Common.{◌≡◌, ◌+◌, length}
 use Rattle.cell_core.specs.Keyed.{IsMap}
 use Rattle.cell_core.specs.Entry.{key_cmp}
-use Rattle.map_docs.specs.LangMaps.{labels_of}
-use Rattle.docs_core.proofs.UpdatedLemmas.{IsFront}
+use Rattle.map_docs.specs.Maps.{labels_of}
+use Rattle.docs_core.proofs.UpdatingLemmas.{IsFront}
 use Rattle.docs_core.proofs.call.updating.update_labels.Given as goal
 
 -- the changes of the keys before those that are left are made

@@ -1,8 +1,8 @@
 use Rattle.std.proofs.Common.{◌≡◌, inl}
 use Rattle.std.proofs.lemmas.Result.{err_from_is_err_and}
-use Rattle.map_docs.proofs.LangMapLabelsLemmas.{else_by}
+use Rattle.map_docs.proofs.MapsLabelsLemmas.{else_by}
 use Rattle.docs_core.proofs.CallsLemmas.{site_written}
-use Rattle.docs_core.proofs.ExchangeLemmas.{not_updated}
+use Rattle.docs_core.proofs.UpdatingRefusalLemmas.{not_updated}
 use Rattle.docs_core.proofs.call.updating.updated_site.Goals as goal
 
 -- the site is refused

@@ -3,10 +3,10 @@ use Rattle.std.proofs.Common.{take, ℕ}
 use Rattle.std.proofs.Math.Seq.{take-length}
 use Rattle.std.proofs.lemmas.Option.{IfSome_then}
 use Rattle.std.specs.Prelude.{option_map}
-use Rattle.catalogue.specs.Latest.{latest_of}
-use Rattle.site_docs.specs.ReadsAs.{ReadsAsSite}
+use Rattle.catalogue.specs.CatalogueLatest.{latest_of}
+use Rattle.site_docs.specs.Reading.{ReadsAsSite}
 use Rattle.docs_core.specs.FoundChanges.{changes_of}
-use Rattle.docs_core.specs.Made.{Change}
+use Rattle.docs_core.specs.UpdatingChanges.{Change}
 use Rattle.docs_core.specs.StampedRows.{HoldsStamped}
 use Rattle.docs_core.specs.declared.call.found_changes.KeyChange.{KeyChange}
 use Rattle.docs_core.proofs.StampedRowsLemmas.{above_taken, taken_more}

@@ -1,4 +1,4 @@
-use Rattle.json_docs.proofs.SeenLemmas.{items_in-Array, AreRead-Array}
+use Rattle.json_docs.proofs.PartsSeenLemmas.{items_in-Array, AreRead-Array}
 use Rattle.json_docs.proofs.json_text.parts.items_of.Goals as goal
 
 pub returns-in-Array-clause-items : goal.returns-in-Array-clause-items

@@ -1,5 +1,5 @@
 use Rattle.json.specs.Value.{value_view}
-use Rattle.json_docs.proofs.ReadableLemmas.{IsRead-in_range, parts_in_range, Reads-in_range}
+use Rattle.json_docs.proofs.ScanningReadableLemmas.{IsRead-in_range, parts_in_range, Reads-in_range}
 use Rattle.json_docs.proofs.json_text.scanning.next_value.Goals as goal
 
 pub returns-in-Ok-clause-ok : goal.returns-in-Ok-clause-ok

@@ -1,6 +1,6 @@
 use Rattle.std.proofs.Common.{◌∙◌, ap, inr, refl, sym}
 use Rattle.json_docs.specs.Numbers.{are_in_range}
-use Rattle.json_docs.proofs.WholeTextLemmas.{numbers_refused}
+use Rattle.json_docs.proofs.TextWholeLemmas.{numbers_refused}
 use Rattle.json_docs.proofs.json_text.text.check_numbers.Goals as goal
 
 pub returns-else-has_numbers_in_range : goal.returns-else-has_numbers_in_range

@@ -1,7 +1,7 @@
 use Rattle.std.proofs.Common.{◌≡◌, ◌∙◌, [], Some, ap, sym}
 use Rattle.json.specs.Json.{skip_value}
 use Rattle.json.specs.Lex.{tokens}
-use Rattle.json_docs.proofs.WholeTextLemmas.{value_whole}
+use Rattle.json_docs.proofs.TextWholeLemmas.{value_whole}
 use Rattle.json_docs.proofs.json_text.text.check_value.Goals as goal
 
 -- nothing follows the value

@@ -3,10 +3,10 @@ use Rattle.std.specs.List.{list_any}
 use Rattle.lang_core.specs.Text.{pieces}
 use Rattle.lang_core.specs.Grammar.{is_star}
 use Rattle.lang_core.specs.Subtags.{subtags_left}
-use Rattle.lang_core.proofs.LookupLemmas.{lookup_star, lookup_kept}
-use Rattle.lang_core.proofs.OtherText.{other_text, own_text}
+use Rattle.lang_core.proofs.LookupTextLemmas.{lookup_star, lookup_kept}
+use Rattle.lang_core.proofs.LookupTextOther.{other_text, own_text}
 use Rattle.lang_core.proofs.PiecesLemmas.{some_pieces}
-use Rattle.lang_core.proofs.Stars.{star_only}
+use Rattle.lang_core.proofs.RangeStars.{star_only}
 use Rattle.lang_core.proofs.lookup_text.LookupText.new.Goals as goal
 
 pub unreachable-requires : goal.unreachable-requires

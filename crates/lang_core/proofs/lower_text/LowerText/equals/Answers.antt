@@ -1,5 +1,5 @@
 use Rattle.std.proofs.Common.{◌≡◌, ◌∙◌, ap, sym}
-use Rattle.lang_core.specs.Kept.{kept_bytes}
+use Rattle.lang_core.specs.LowerTextBytes.{kept_bytes}
 use Rattle.lang_core.proofs.lower_text.LowerText.equals.Goals as goal
 
 pub returns-in-Short-Short : goal.returns-in-Short-Short

@@ -1,5 +1,5 @@
 use Rattle.std.proofs.Common.{rules}
-use Rattle.lang_core.proofs.FrontLemmas.{basic_test}
+use Rattle.lang_core.proofs.MatchingFrontsLemmas.{basic_test}
 use Rattle.lang_core.proofs.range.Range.matches_basic.Goals as goal
 
 pub returns-clause-test : goal.returns-clause-test

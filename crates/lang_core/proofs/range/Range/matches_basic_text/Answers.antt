@@ -1,6 +1,6 @@
 use Rattle.std.proofs.Common.{rules}
-use Rattle.lang_core.proofs.FrontLemmas.{basic_test}
-use Rattle.lang_core.proofs.LookupLemmas.{lower-range}
+use Rattle.lang_core.proofs.MatchingFrontsLemmas.{basic_test}
+use Rattle.lang_core.proofs.LookupTextLemmas.{lower-range}
 use Rattle.lang_core.proofs.range.Range.matches_basic_text.Goals as goal
 
 pub matches_basic_text-requires : goal.matches_basic_text-requires

@@ -6,7 +6,7 @@ use Rattle.lang_core.specs.Text.{subtags, IsSized}
 use Rattle.lang_core.specs.Grammar.{BasicRange, ExtendedRange}
 use Rattle.lang_core.specs.Range.{IsRange}
 use Rattle.lang_core.proofs.RangeText.{basic_nonzero, basic_extended}
-use Rattle.lang_core.proofs.LookupLemmas.{lookup_text-basic}
+use Rattle.lang_core.proofs.LookupTextLemmas.{lookup_text-basic}
 use Rattle.lang_core.proofs.range.Range.parse_basic.Goals as goal
 
 pub new-requires : goal.new-requires

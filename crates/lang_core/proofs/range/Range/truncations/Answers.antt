@@ -1,7 +1,7 @@
 use Rattle.std.proofs.Common.{◌∙◌, ap, List, ℕ}
 use Rattle.lang_core.specs.Text.{pieces}
-use Rattle.lang_core.specs.Candidates.{candidates}
-use Rattle.lang_core.proofs.LookupLemmas.{pieces-lookup_text}
+use Rattle.lang_core.specs.TruncationsCandidates.{candidates}
+use Rattle.lang_core.proofs.LookupTextLemmas.{pieces-lookup_text}
 use Rattle.lang_core.proofs.range.Range.truncations.Goals as goal
 
 pub returns : goal.returns

@@ -1,7 +1,7 @@
 use Rattle.std.proofs.Common.{◌≡◌, true, false, sym, ◌∙◌}
 use Rattle.std.specs.Str.{str_to_ascii_lowercase}
 use Rattle.lang_core.specs.Grammar.{is_star}
-use Rattle.lang_core.proofs.CaseLemmas.{star-lower}
+use Rattle.lang_core.proofs.SubtagCaseLemmas.{star-lower}
 use Rattle.lang_core.proofs.range_syntax.RangeSyntax.allows.Goals as goal
 
 pub returns-then-is_star : goal.returns-then-is_star

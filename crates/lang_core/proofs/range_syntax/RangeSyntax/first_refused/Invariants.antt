@@ -1,6 +1,6 @@
 use Rattle.lang_core.specs.Pieces.{pieces_left}
 use Rattle.lang_core.specs.RangeSyntax.{allowed_by}
-use Rattle.lang_core.proofs.Walks.{IsWalked}
+use Rattle.lang_core.proofs.PiecesWalk.{IsWalked}
 use Rattle.lang_core.proofs.range_syntax.RangeSyntax.first_refused.Given as goal
 
 abbrev pub invariant-loop-piece : goal.invariant-loop-piece

@@ -1,9 +1,9 @@
 use Rattle.std.proofs.Common.{arith, refl, ◌∙◌, ◌≡◌, true}
 use Rattle.std.specs.Str.{str_to_ascii_lowercase}
 use Rattle.lang_core.specs.Grammar.{is_private_piece}
-use Rattle.lang_core.proofs.CaseLemmas.{letters-lower, digits-lower}
-use Rattle.lang_core.proofs.ClassSums.{sum_of_other, sum_of_alphanums, sum_of_letters}
-use Rattle.lang_core.proofs.ClassSums.{sum_of_digits}
+use Rattle.lang_core.proofs.SubtagCaseLemmas.{letters-lower, digits-lower}
+use Rattle.lang_core.proofs.SubtagClassSums.{sum_of_other, sum_of_alphanums, sum_of_letters}
+use Rattle.lang_core.proofs.SubtagClassSums.{sum_of_digits}
 use Rattle.lang_core.proofs.SubtagLemmas.{too_short, too_long, no_alphanum, alphanums_read}
 use Rattle.lang_core.proofs.subtag.Subtag.read.Goals as goal
 use Rattle.lang_core.proofs.subtag.Subtag.read.Goals.{then-is_empty-via-then-is_empty}

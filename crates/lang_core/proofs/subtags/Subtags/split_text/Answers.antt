@@ -3,7 +3,7 @@ use Rattle.std.specs.Str.{IsCharBoundary}
 use Rattle.std.proofs.lemmas.Str.{IsCharBoundary-before_ascii, IsCharBoundary-after_ascii}
 use Rattle.lang_core.specs.Text.{pieces}
 use Rattle.lang_core.specs.Kind.{is_of}
-use Rattle.lang_core.proofs.RunsLemmas.{no_run, all_run, cut_run, split_as}
+use Rattle.lang_core.proofs.SubtagsRunsLemmas.{no_run, all_run, cut_run, split_as}
 use Rattle.lang_core.proofs.subtags.Subtags.split_text.Goals as goal
 
 pub range-requires-clause-end_boundary : goal.range-requires-clause-end_boundary

@@ -2,9 +2,9 @@ use Rattle.std.proofs.Common.{List, sym, ◌∙◌, ap, subst}
 use Rattle.cell_core.specs.Keyed.{IsMap}
 use Rattle.cell_core.specs.Entry.{key_cmp}
 use Rattle.catalogue.specs.Entries.{IsAboveAll}
-use Rattle.map_docs.specs.LangMaps.{Labelled, labels_of}
-use Rattle.catalogue.proofs.BehindLemmas.{IsMap-behind}
-use Rattle.map_docs.proofs.LangMapsLemmas.{labels_push}
+use Rattle.map_docs.specs.Maps.{Labelled, labels_of}
+use Rattle.catalogue.proofs.CatalogueAboveLemmas.{IsMap-behind}
+use Rattle.map_docs.proofs.MapsLemmas.{labels_push}
 use Rattle.map_docs.proofs.maps.LangMaps.push.Goals as goal
 
 pub invariant_of-self-2 : goal.invariant_of-self-2

@@ -1,5 +1,5 @@
 use Rattle.std.proofs.Common.{sym, ◌∙◌}
-use Rattle.nego_core.proofs.EarliestLemmas.{earliest_kept, earliest_new, earliest_unmatched}
+use Rattle.nego_core.proofs.WideningEarliestLemmas.{earliest_kept, earliest_new, earliest_unmatched}
 use Rattle.nego_core.proofs.widened_choice.WidenedRanges.earlier.Goals as goal
 
 pub returns-in-Some : goal.returns-in-Some

@@ -1,5 +1,5 @@
 use Rattle.list_core.proofs.Basics.{false_true}
-use Rattle.nego_core.proofs.EarliestLemmas.{matched_first, matched_nowhere}
+use Rattle.nego_core.proofs.WideningEarliestLemmas.{matched_first, matched_nowhere}
 use Rattle.nego_core.proofs.widened_choice.WidenedRanges.first_tried.Goals as goal
 use Rattle.nego_core.proofs.widened_choice.WidenedRanges.first_tried.Goals.{else-tried-order-via-then-tried-order+else-not-named_refuse}
 use Rattle.nego_core.proofs.widened_choice.WidenedRanges.first_tried.Goals.{else-tried-order-via-else-tried-order}

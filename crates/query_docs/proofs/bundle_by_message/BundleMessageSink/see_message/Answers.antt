@@ -1,5 +1,5 @@
 use Rattle.std.proofs.Common.{◌≡◌, ◌==◌, ◌∙◌, ◌++◌, [], List, ap, length, subst, sym, true≢false}
-use Rattle.cell_core.proofs.AboveLemmas.{on_ok_then}
+use Rattle.cell_core.proofs.KeyedAboveLemmas.{on_ok_then}
 use Rattle.catalogue.specs.Asking.{IsLookedUpIn}
 use Rattle.catalogue.specs.Live.{Labelled}
 use Rattle.catalogue.proofs.Basics.{append_nil}
@@ -7,7 +7,7 @@ use Rattle.query_docs.specs.BundleByMessage.{default_of}
 use Rattle.query_docs.specs.ByMessage.{cells_of}
 use Rattle.query_docs.specs.Draft.{HasWritten}
 use Rattle.query_docs.specs.LiveCells.{found_in, labels_of}
-use Rattle.query_docs.specs.LooksUp.{answered_of}
+use Rattle.query_docs.specs.LiveCellsLookup.{answered_of}
 use Rattle.query_docs.specs.declared.by_message.MessageCell.{MessageCell}
 use Rattle.query_docs.proofs.BundleByMessageLemmas.{bundled_more, own_id}
 use Rattle.query_docs.proofs.LiveCellsLemmas.{labelled_answer, own_live}

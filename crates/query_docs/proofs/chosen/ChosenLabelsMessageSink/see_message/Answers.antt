@@ -1,7 +1,7 @@
 use Rattle.std.proofs.Common.{◌∙◌, ◌++◌, List, ap, false, refl, subst, sym, true}
-use Rattle.cell_core.proofs.AboveLemmas.{on_ok_then}
+use Rattle.cell_core.proofs.KeyedAboveLemmas.{on_ok_then}
 use Rattle.catalogue.proofs.Basics.{append_nil}
-use Rattle.map_docs.specs.LangMaps.{Labelled}
+use Rattle.map_docs.specs.Maps.{Labelled}
 use Rattle.query_docs.specs.ByMessage.{cells_of}
 use Rattle.query_docs.specs.Draft.{HasWritten}
 use Rattle.query_docs.proofs.ChosenLemmas.{chosen_or_none, has_more}

@@ -1,7 +1,7 @@
 use Rattle.std.proofs.Common.{◌++◌, List, subst, sym}
 use Rattle.std.specs.Prelude.{OnOk, Result}
 use Rattle.cell_core.specs.Entry.{EntryKey}
-use Rattle.map_docs.specs.LangMaps.{Labelled}
+use Rattle.map_docs.specs.Maps.{Labelled}
 use Rattle.site_docs.specs.Sink.{texts_of}
 use Rattle.site_docs.specs.declared.sink.LabelRef.{LabelRef}
 use Rattle.query_docs.specs.Draft.{HasWritten, labelled_by}

@@ -1,5 +1,5 @@
 use Rattle.std.proofs.Common.{◌∙◌, [], ℕ, List, Option, subst, sym}
-use Rattle.map_docs.specs.LangMapsWritten.{IsWriting}
+use Rattle.map_docs.specs.WritingMaps.{IsWriting}
 use Rattle.map_docs.proofs.WritingLemmas.{found_last}
 use Rattle.query_docs.proofs.DraftLemmas.{all_written}
 use Rattle.query_docs.proofs.draft.Draft.close.Goals as goal

@@ -1,8 +1,8 @@
 use Rattle.std.proofs.Common.{subst, sym}
-use Rattle.cell_core.proofs.AboveLemmas.{on_ok_then}
+use Rattle.cell_core.proofs.KeyedAboveLemmas.{on_ok_then}
 use Rattle.site_docs.specs.Sink.{entry_of}
 use Rattle.query_docs.specs.Draft.{HasWritten}
-use Rattle.query_docs.specs.Exported.{live_labels}
+use Rattle.query_docs.specs.Exporting.{live_labels}
 use Rattle.query_docs.proofs.DraftLemmas.{live_more}
 use Rattle.query_docs.proofs.draft.DraftCellSink.see.Goals as goal
 

@@ -1,7 +1,7 @@
 use Rattle.std.proofs.Common.{◌∙◌, ◌++◌, ◌∷◌, [], ap, append_assoc}
 use Rattle.std.proofs.lemmas.Result.{IfOk-weaker}
 use Rattle.row_docs.specs.Entries.{row_of}
-use Rattle.row_docs.specs.Values.{cell_value}
+use Rattle.row_docs.specs.EntriesValues.{cell_value}
 use Rattle.query_docs.proofs.LinesLemmas.{printed_after}
 use Rattle.query_docs.proofs.lines.Lines.cell.Goals as goal
 

@@ -1,7 +1,7 @@
 use Rattle.std.proofs.Common.{◌∙◌, ◌++◌, ◌∷◌, [], ap, append_assoc}
 use Rattle.std.proofs.lemmas.Result.{IfOk-weaker}
 use Rattle.catalogue.specs.ChangesLeft.{change_seen}
-use Rattle.query_docs.specs.Changed.{change_value}
+use Rattle.query_docs.specs.Changes.{change_value}
 use Rattle.query_docs.proofs.LinesLemmas.{printed_after}
 use Rattle.query_docs.proofs.lines.Lines.change.Goals as goal
 

@@ -1,5 +1,5 @@
 use Rattle.std.proofs.Common.{◌∙◌}
-use Rattle.row_docs.specs.Values.{texts_value}
+use Rattle.row_docs.specs.EntriesValues.{texts_value}
 use Rattle.query_docs.proofs.LinesLemmas.{printed_after}
 use Rattle.query_docs.proofs.lines.Lines.label.Goals as goal
 

@@ -1,6 +1,6 @@
 use Rattle.std.proofs.Common.{◌∙◌, ap, refl, sym}
 use Rattle.std.specs.Ordering.{is_eq}
-use Rattle.cell_core.proofs.AboveLemmas.{on_ok_then}
+use Rattle.cell_core.proofs.KeyedAboveLemmas.{on_ok_then}
 use Rattle.site_docs.specs.Sink.{entry_of}
 use Rattle.query_docs.proofs.OneMessageLemmas.{above_kept, kept_more}
 use Rattle.query_docs.proofs.one_message.OneMessageCellSink.see.Goals as goal

@@ -1,5 +1,5 @@
 use Rattle.site_docs.specs.Sink.{entry_of}
-use Rattle.query_docs.proofs.CountedLemmas.{counts_more}
+use Rattle.query_docs.proofs.StatusCountsLemmas.{counts_more}
 use Rattle.query_docs.proofs.status.CountsCellSink.see.Goals as goal
 
 pub returns : goal.returns

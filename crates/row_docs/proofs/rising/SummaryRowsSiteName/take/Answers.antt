@@ -1,6 +1,6 @@
 use Rattle.std.proofs.Common.{◌≡◌, true, false, refl, inr, ap}
 use Rattle.cata_core.specs.Summary.{SummaryState}
-use Rattle.json_docs.specs.Reads.{seen}
+use Rattle.json_docs.specs.ScanningReads.{seen}
 use Rattle.row_docs.specs.Rising.{stamped_in, own_stamp_checks}
 use Rattle.row_docs.proofs.RisingLemmas.{fails_row, key_of_stamp, MakesEntries-push, passes_row}
 use Rattle.row_docs.proofs.rising.SummaryRowsSiteName.take.Goals as goal

@@ -1,6 +1,6 @@
 use Rattle.std.proofs.Common.{◌≡◌, sym}
 use Rattle.std.specs.Prelude.{Some}
-use Rattle.json_docs.specs.Reads.{seen}
+use Rattle.json_docs.specs.ScanningReads.{seen}
 use Rattle.script_docs.specs.Steps.{step_in}
 use Rattle.script_docs.specs.StepsSeen.{text_of}
 use Rattle.script_docs.proofs.StepsLemmas.{AreSteps-push, step_passes}

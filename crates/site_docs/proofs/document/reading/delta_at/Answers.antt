@@ -1,4 +1,4 @@
-use Rattle.site_docs.specs.ReadsAs.{RefusesDelta}
+use Rattle.site_docs.specs.Reading.{RefusesDelta}
 use Rattle.row_docs.proofs.ReadersLemmas.{of_reader}
 use Rattle.site_docs.proofs.document.reading.delta_at.Goals as goal
 

@@ -1,4 +1,4 @@
-use Rattle.site_docs.specs.ReadsAs.{RefusesSite}
+use Rattle.site_docs.specs.Reading.{RefusesSite}
 use Rattle.row_docs.proofs.ReadersLemmas.{of_reader}
 use Rattle.site_docs.proofs.document.reading.site_at.Goals as goal
 

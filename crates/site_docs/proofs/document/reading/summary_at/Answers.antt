@@ -1,4 +1,4 @@
-use Rattle.site_docs.specs.ReadsAs.{RefusesSummary}
+use Rattle.site_docs.specs.Reading.{RefusesSummary}
 use Rattle.row_docs.proofs.ReadersLemmas.{of_reader}
 use Rattle.site_docs.proofs.document.reading.summary_at.Goals as goal
 

@@ -1,5 +1,5 @@
 use Rattle.std.proofs.Common.{◌≡◌, ◌∙◌, ◌++◌, ◌∷◌, ap, decimal, rules}
-use Rattle.row_docs.specs.Values.{Row}
+use Rattle.row_docs.specs.EntriesValues.{Row}
 use Rattle.site_docs.specs.PlainRows.{text_in}
 use Rattle.site_docs.proofs.PlainLemmas.{front_taken}
 use Rattle.site_docs.proofs.plain.rows.next_front.Goals as goal

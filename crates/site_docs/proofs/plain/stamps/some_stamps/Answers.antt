@@ -3,7 +3,7 @@ use Rattle.std.specs.Prelude.{Some}
 use Rattle.serde_json.specs.Written.{comma_if, compact_text}
 use Rattle.cata_core.specs.Delta.{Stamps}
 use Rattle.row_docs.specs.Entries.{stamped_value, stamps_values}
-use Rattle.row_docs.specs.Valid.{AreKeptStamps}
+use Rattle.row_docs.specs.EntriesValid.{AreKeptStamps}
 use Rattle.site_docs.specs.Plain.{is_later, open_items}
 use Rattle.site_docs.specs.PlainRows.{IsLastOf, stamped_in}
 use Rattle.site_docs.proofs.PlainLemmas.{array_taken, is_later-push, last_taken}

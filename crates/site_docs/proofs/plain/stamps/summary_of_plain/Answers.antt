@@ -1,6 +1,6 @@
 use Rattle.std.proofs.Common.{◌∙◌, List, ℕ, ap, refl, subst, sym}
 use Rattle.cata_core.specs.Summary.{SummaryState}
-use Rattle.site_docs.specs.ReadsAs.{ReadsAsSummary}
+use Rattle.site_docs.specs.Reading.{ReadsAsSummary}
 use Rattle.site_docs.proofs.PlainStampsLemmas.{summary_taken}
 use Rattle.site_docs.proofs.plain.stamps.summary_of_plain.Goals as goal
 

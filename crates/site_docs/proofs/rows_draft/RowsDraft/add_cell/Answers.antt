@@ -2,7 +2,7 @@ use Rattle.std.proofs.Common.{◌∙◌, ◌++◌, ap}
 use Rattle.std.proofs.lemmas.Result.{IfOk-weaker}
 use Rattle.catalogue.specs.Entries.{Entry}
 use Rattle.row_docs.specs.Entries.{cells_values, entry_value}
-use Rattle.row_docs.specs.Texts.{value_tokens}
+use Rattle.row_docs.specs.WritingTexts.{value_tokens}
 use Rattle.site_docs.specs.Envelope.{cells_opening}
 use Rattle.site_docs.proofs.RowsDraftLemmas.{row_added}
 use Rattle.site_docs.proofs.rows_draft.RowsDraft.add_cell.Goals as goal

@@ -1,6 +1,6 @@
 use Rattle.std.proofs.Common.{[], subst}
 use Rattle.std.proofs.lemmas.List.Elements.{All-nil}
-use Rattle.row_docs.specs.Valid.{IsKeptCell}
+use Rattle.row_docs.specs.EntriesValid.{IsKeptCell}
 use Rattle.site_docs.specs.OpenRows.{HoldsOpen}
 use Rattle.site_docs.proofs.rows_draft.RowsDraft.new.Goals as goal
 

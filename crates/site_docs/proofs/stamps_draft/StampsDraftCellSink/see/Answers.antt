@@ -1,5 +1,5 @@
 use Rattle.std.proofs.Common.{◌∙◌, ◌++◌, ◌∷◌, [], ap}
-use Rattle.cell_core.proofs.AboveLemmas.{on_ok_then}
+use Rattle.cell_core.proofs.KeyedAboveLemmas.{on_ok_then}
 use Rattle.cata_core.specs.Delta.{summary_of}
 use Rattle.row_docs.specs.Entries.{stamped_value, stamps_values}
 use Rattle.site_docs.specs.Envelope.{stamps_opening}

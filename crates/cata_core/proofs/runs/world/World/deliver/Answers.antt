@@ -2,7 +2,7 @@ use Rattle.std.proofs.Common.{◌≡◌, ◌<◌, [], sym, subst, refl, length, 
 use Rattle.std.proofs.lemmas.Result.{IfErr-weaker}
 use Rattle.std.proofs.lemmas.List.{length-set}
 use Rattle.cata_core.specs.declared.step.Step.TheVariants.{Deliver}
-use Rattle.cata_core.specs.Held.{PostedCells}
+use Rattle.cata_core.specs.WorldHeld.{PostedCells}
 use Rattle.cata_core.specs.PlayFault.{IsFaultOf}
 use Rattle.cata_core.specs.World.{held_in, IsClashAt}
 use Rattle.catalogue.proofs.Basics.{append_nil}

@@ -1,7 +1,7 @@
 use Rattle.std.proofs.Common.{◌≡◌, ◌<◌, ◌∙◌, ◌++◌, ◌∷◌, [], ap, sym, subst, refl, length, arith}
 use Rattle.std.specs.Prelude.{All}
 use Rattle.cata_core.specs.Delta.{delta_of}
-use Rattle.cata_core.specs.Held.{PostedCells}
+use Rattle.cata_core.specs.WorldHeld.{PostedCells}
 use Rattle.cata_core.specs.World.{at_sites}
 use Rattle.catalogue.proofs.Basics.{append_nil}
 use Rattle.cata_core.proofs.WorldLemmas.{posted_step, posted_addressed, at_site, named_one}

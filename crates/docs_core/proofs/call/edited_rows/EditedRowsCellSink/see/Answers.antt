@@ -6,7 +6,7 @@ use Rattle.cell_core.specs.Keyed.{joined_if_both}
 use Rattle.cell_core.specs.declared.stamp.Stamp.{Stamp}
 use Rattle.cell_core.specs.Entry.{EntryKey, key_cmp}
 use Rattle.site_docs.specs.Sink.{entry_of}
-use Rattle.query_docs.proofs.CountedLemmas.{latest_more}
+use Rattle.query_docs.proofs.StatusCountsLemmas.{latest_more}
 use Rattle.docs_core.proofs.EditedRowsLemmas.{order_known, passed_more}
 use Rattle.docs_core.proofs.call.edited_rows.EditedRowsCellSink.see.Goals as goal
 

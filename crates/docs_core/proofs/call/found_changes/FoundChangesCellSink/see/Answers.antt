@@ -3,7 +3,7 @@ use Rattle.cell_core.specs.Cell.{joined_stamps}
 use Rattle.cell_core.specs.Keyed.{joined_if_both}
 use Rattle.cell_core.specs.declared.stamp.Stamp.{Stamp}
 use Rattle.site_docs.specs.Sink.{entry_of}
-use Rattle.query_docs.proofs.CountedLemmas.{latest_more}
+use Rattle.query_docs.proofs.StatusCountsLemmas.{latest_more}
 use Rattle.docs_core.proofs.call.found_changes.FoundChangesCellSink.see.Goals as goal
 
 -- the keys up to that of the cell are passed, and its stamp is among all

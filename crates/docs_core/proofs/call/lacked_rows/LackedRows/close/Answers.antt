@@ -2,7 +2,7 @@ use Rattle.std.specs.FinMap.Entries.{find}
 use Rattle.cata_core.specs.Delta.{delta_of, is_missing}
 use Rattle.cell_core.specs.Entry.{key_cmp}
 use Rattle.catalogue.specs.Entries.{Entry}
-use Rattle.catalogue.proofs.FilteredLemmas.{filter-IsMap}
+use Rattle.catalogue.proofs.EntriesFilteredLemmas.{filter-IsMap}
 use Rattle.docs_core.proofs.call.lacked_rows.LackedRows.close.Goals as goal
 
 -- what is lacked of a map is one

@@ -1,10 +1,10 @@
 use Rattle.std.proofs.Common.{◌≡◌, ap, List, None, subst, sym, ℕ}
 use Rattle.catalogue.specs.Entries.{Entries, joined}
-use Rattle.catalogue.specs.Latest.{latest_of}
+use Rattle.catalogue.specs.CatalogueLatest.{latest_of}
 use Rattle.cata_core.specs.Site.{SiteState}
-use Rattle.site_docs.proofs.OneDocument.{one_site}
-use Rattle.site_docs.specs.ReadsAs.{IsSiteText}
-use Rattle.docs_core.specs.Made.{Makes}
+use Rattle.site_docs.proofs.ReadingOneDocument.{one_site}
+use Rattle.site_docs.specs.Reading.{IsSiteText}
+use Rattle.docs_core.specs.UpdatingChanges.{Makes}
 use Rattle.docs_core.specs.StampedRows.{AreStamped}
 use Rattle.docs_core.proofs.StampedRowsLemmas.{stamped_all, stamped_made}
 use Rattle.docs_core.proofs.SyncedRowsLemmas.{synced_all, synced_whole}

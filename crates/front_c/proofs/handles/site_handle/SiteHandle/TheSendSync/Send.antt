@@ -11,7 +11,7 @@ use Rattle.std.proofs.Crossing as heap
 use Rattle.std_alloc.proofs.SendSync.{quiet, lies}
 use Rattle.std_heap.specs.declared.Global.{Global}
 use Rattle.front_core.proofs.open_site.OpenSite.TheSendSync as site
-use Rattle.front_c.specs.Held.{Share, share_row, site_held}
+use Rattle.front_c.specs.SiteHandleHeld.{Share, share_row, site_held}
 use Rattle.front_c.specs.contracts.handles.site_handle.SiteHandle.{the_row, the_type}
 
 share_send : IsSend share_row

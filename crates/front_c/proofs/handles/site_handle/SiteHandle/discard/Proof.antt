@@ -18,7 +18,7 @@ use denote.RawPtr.{Ptr}
 use denote.Signature.{plain, types_at}
 use denote.Steps.{nothing, heard}
 use denote.Triple.Walked.{Stays, walk_of, stay_dropped, Goes-dropped, ends_at}
-use Rattle.front_c.specs.Held.{Share, site_held}
+use Rattle.front_c.specs.SiteHandleHeld.{Share, site_held}
 use Rattle.front_c.specs.contracts.handles.site_handle.SiteHandle.{the_row as R}
 use Rattle.front_c.proofs.handles.site_handle.SiteHandle.TheLaws.{lowers}
 use Rattle.front_c.specs.contracts.handles.site_handle.SiteHandle.discard as f

@@ -22,17 +22,17 @@ use denote.Signature.{plain, types_at}
 use denote.Steps.{nothing, heard}
 use contract.Monad.{fact}
 use Rattle.std.specs.Prelude.{IsSome}
-use Rattle.front_c.specs.Held.{Share}
-use Rattle.front_c.specs.Held.{site_held}
-use Rattle.front_c.proofs.Options.{some_of}
+use Rattle.front_c.specs.SiteHandleHeld.{Share}
+use Rattle.front_c.specs.SiteHandleHeld.{site_held}
+use Rattle.front_c.proofs.SiteHandleOptions.{some_of}
 use denote.Triple.Walked.{Stays, walk_of, says, stay_dropped, Goes-dropped, ends_at}
 use Rattle.core.proofs.alloc.Calls.{Al, handle_tells}
 use Rattle.std_alloc.specs.Box.Ownership.{box_owns}
-use Rattle.front_c.specs.Held.{share_row as T}
+use Rattle.front_c.specs.SiteHandleHeld.{share_row as T}
 use Rattle.std.specs.contracts.alloc.Global.{the_row as G}
 use Rattle.std.proofs.alloc.Global.TheLaws.{the_row_laws as LG}
 use Rattle.std.specs.contracts.impls.GlobalAllocator.TheImpl.{ghosts}
-use Rattle.front_c.proofs.Values.{both, raw_box_good, raw_box_in}
+use Rattle.front_c.proofs.RawBoxValues.{both, raw_box_good, raw_box_in}
 use Rattle.front_c.specs.contracts.handles.site_handle.SiteHandle.{the_row as R}
 use Rattle.front_c.proofs.handles.site_handle.SiteHandle.TheLaws.{lowers}
 use Rattle.front_c.specs.contracts.handles.site_handle.SiteHandle.into_raw_box as f

@@ -19,11 +19,11 @@ use denote.Steps.{nothing}
 use denote.Struct.Struct.{within}
 use denote.Struct.Owning.{shape}
 use denote.Triple.Walked.{Stays, walk_of, says, stay_dropped, Goes-dropped, ends_at}
-use Rattle.front_c.specs.Held.{share_row as T}
+use Rattle.front_c.specs.SiteHandleHeld.{share_row as T}
 use Rattle.std.specs.contracts.alloc.Global.{the_row as G}
 use Rattle.std.proofs.alloc.Global.TheLaws.{the_row_laws as LG}
 use Rattle.std.specs.contracts.impls.GlobalAllocator.TheImpl.{ghosts}
-use Rattle.front_c.proofs.Values.{both, RawBox, raw_box_good, raw_box_out}
+use Rattle.front_c.proofs.RawBoxValues.{both, RawBox, raw_box_good, raw_box_out}
 use Rattle.front_c.specs.contracts.handles.site_handle.SiteHandle.{the_type}
 use Rattle.front_c.specs.contracts.handles.site_handle.SiteHandle.of_raw_box as f
 use Rattle.front_c.specs.contracts.handles.site_handle.SiteHandle.of_raw_box.Key.{name as key}

@@ -25,16 +25,16 @@ use denote.Signature.{plain, mut_ref_to}
 use denote.Steps.{nothing, opens, peeks, heard}
 use contract.Monad.{fact}
 use Rattle.std.specs.Prelude.{IsSome}
-use Rattle.front_c.specs.Held.{Share}
-use Rattle.front_c.specs.Held.{site_held}
+use Rattle.front_c.specs.SiteHandleHeld.{Share}
+use Rattle.front_c.specs.SiteHandleHeld.{site_held}
 use Rattle.front_c.specs.Handles.{with_site}
-use Rattle.front_c.proofs.Options.{some_of}
+use Rattle.front_c.proofs.SiteHandleOptions.{some_of}
 use denote.Struct.Struct.{Struct}
 use denote.Struct.Owning.{shape, to}
 use denote.Triple.Walked.{Stays, walk_of, says, stay_dropped, Goes-spent_ref, ends_at}
 use Rattle.std.specs.contracts.impls.GlobalAllocator.TheImpl.{ghosts}
 use Rattle.std_alloc.specs.Box.Ownership.{box_owns}
-use Rattle.front_c.specs.Held.{share_row as T}
+use Rattle.front_c.specs.SiteHandleHeld.{share_row as T}
 use Rattle.front_c.specs.declared.handles.site_handle.SiteHandle.{SiteHandle}
 use Rattle.front_c.specs.contracts.handles.site_handle.SiteHandle.{the_type, the_row as R}
 use Rattle.front_c.proofs.handles.site_handle.SiteHandle.TheLaws.{lowers}

@@ -1,6 +1,6 @@
 use Rattle.std.proofs.Common.{◌≡◌, false, inr, refl, true}
 use Rattle.cell_core.specs.Entry.{EntryKey}
-use Rattle.json_docs.specs.Reads.{seen}
+use Rattle.json_docs.specs.ScanningReads.{seen}
 use Rattle.row_docs.specs.Rising.{entry_in, own_cell_checks}
 use Rattle.row_docs.proofs.RisingLemmas.{fails_row, key_of_cell, passes_row}
 use Rattle.site_docs.proofs.ShownRowsLemmas.{above_shown, shown_more, some_weaker}
