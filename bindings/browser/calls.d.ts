@@ -228,7 +228,7 @@ export interface Site extends Asked {
   missing(lang: Text): LanguageMaps;
   /** The messages whose label in the source is later than that in this language. Refused: `lang`, `source` (1 to 4). */
   outdated(lang: Text, source: Text): LanguageMaps;
-  /** What is not equal in another site, `after`, in rising order of ids and languages. */
+  /** What is not equal in another site, `after`, in ascending order of ids and languages. */
   changes(after: Site): Change[];
 }
 

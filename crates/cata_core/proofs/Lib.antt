@@ -22,5 +22,5 @@ pub mod SummaryLemmas
 pub mod SummaryListsLemmas
 pub mod SyncingRepeatsLemmas
 pub mod SyncingTurnsLemmas
-pub mod WorldHeldRisesLemmas
+pub mod WorldHeldGrowsLemmas
 pub mod WorldLemmas

@@ -17,7 +17,7 @@ use Rattle.cata_core.specs.WorldHeld.{cells_posted}
 use Rattle.cata_core.proofs.DeltaLemmas.{nothing_lost_of_maps}
 use Rattle.cata_core.proofs.RunsMachineLemmas.{held_one_more}
 use Rattle.cata_core.proofs.RunsSpreadingLemmas.{after_append, get_kept, get_next, post_stays}
-use Rattle.cata_core.proofs.WorldHeldRisesLemmas.{held_append, held-IsMap, later_has, told_serves}
+use Rattle.cata_core.proofs.WorldHeldGrowsLemmas.{held_append, held-IsMap, later_has, told_serves}
 
 teller_stays : (w : Taken) (steps : List Step) (i : ℕ) (t : ℕ) → slice_get w.tellers i ≡ Some t
     → let v = taken_after w steps in slice_get v.tellers i ≡ Some t

@@ -46,8 +46,8 @@ module _ (es : Entries) (key : EntryKey) (cell : Cell) (m : IsMap key_cmp es)
           (ap is_lt (held_less es key mine cell.stamp above e))
 
   -- and the catalogue with it is above the one before
-  pub own_rises : IsBelowCells es (put key_cmp key cell es)
-  own_rises =
+  pub own_ascends : IsBelowCells es (put key_cmp key cell es)
+  own_ascends =
       subst (IsBelow Agree joined es) (sym own_joins)
       (catalogue_laws.above_first es ((key, cell) ∷ []) own_agrees)
 

@@ -104,7 +104,7 @@ pub enum Answer {
     Filter(Entries),
     /// A language with its label, or the default with its label, or nothing.
     Lookup(Reply),
-    /// All cells of a site, in strictly rising order of key.
+    /// All cells of a site, in strictly ascending order of key.
     Cells(Edits),
 }
 

@@ -45,7 +45,7 @@ impl SummaryEntry {
     }
 }
 
-/// The stamps of a site's cells, in strictly rising order of key, and the name of the site, its
+/// The stamps of a site's cells, in strictly ascending order of key, and the name of the site, its
 /// owner.
 #[derive(Debug, Drop)]
 pub struct Summary {
@@ -112,7 +112,7 @@ impl Summary {
         self.entries.is_empty()
     }
 
-    /// The key and stamp at a place in rising order of key, from 0; none from `len` on.
+    /// The key and stamp at a place in ascending order of key, from 0; none from `len` on.
     pub fn nth(&self, place: usize) -> Option<(&MessageId, &Lang, Stamp)>
         ensures { option_map (λ e. ((e.0.now, e.1.now), e.2)) result
             ≡ slice_get self.now.stamps place }
@@ -123,7 +123,7 @@ impl Summary {
         }
     }
 
-    /// All keys, each with its stamp, in rising order of key.
+    /// All keys, each with its stamp, in ascending order of key.
     pub fn iter(&self) -> SummaryEntries<'_>
         ensures stamps { stamps_left result ≡ self.now.stamps }
         ensures sorted { IsMap key_cmp self.now.stamps }
@@ -173,7 +173,7 @@ impl Summary {
         })
     }
 
-    /// Its entries, in rising order of key.
+    /// Its entries, in ascending order of key.
     pub(crate) fn entries(&self) -> &[SummaryEntry]
         ensures entries { stamps_of result.now ≡ self.now.stamps }
         ensures sorted { IsMap key_cmp self.now.stamps }

@@ -6,7 +6,7 @@ use crate::summary::SummaryEntry;
 use cell_core::{MessageId, Stamp};
 use lang_core::Lang;
 
-/// Iterates over the keys of a summary, each with its stamp, in rising order of key.
+/// Iterates over the keys of a summary, each with its stamp, in ascending order of key.
 #[derive(Debug, Drop)]
 pub struct SummaryEntries<'a> {
     entries: &'a [SummaryEntry],

@@ -114,9 +114,9 @@ module _ {J : Type 0} where
       → IsMap key_cmp es
   tail_of e es m = second_part (below_all key_cmp e.0 es) (is_sorted key_cmp es) m
 
-  rises : (e : EntryKey × J) (es : List (EntryKey × J)) → T (below_all key_cmp e.0 es)
+  ascends : (e : EntryKey × J) (es : List (EntryKey × J)) → T (below_all key_cmp e.0 es)
       → IsMap key_cmp es → IsMap key_cmp (e ∷ es)
-  rises e es h k = both_parts (below_all key_cmp e.0 es) (is_sorted key_cmp es) h k
+  ascends e es h k = both_parts (below_all key_cmp e.0 es) (is_sorted key_cmp es) h k
 
 -- what is below the first of a map is below all of it
 below_first : (x : EntryKey) (e : Entry) (es : Entries) → key_cmp x e.0 ≡ Less
@@ -224,14 +224,14 @@ below_sides x (e ∷ es) after h k =
     below_beside x e (side_by_side es) (head_low x e es h)
     (λ ys o. below_sides x es ys (tail_low x e es h) o) after k
 
-beside_rises : (e : Entry) (es : Entries) → IsMap key_cmp (e ∷ es)
+beside_ascends : (e : Entry) (es : Entries) → IsMap key_cmp (e ∷ es)
     → ((ys : Entries) → IsMap key_cmp ys → IsMap key_cmp (side_by_side es ys))
     → (after : Entries) → IsMap key_cmp after
     → IsMap key_cmp (beside_from e (side_by_side es) after)
-beside_rises e es m of_rest [] n =
-    rises (only_before e) (side_by_side es []) (below_sides e.0 es [] (head_of e es m) tt)
+beside_ascends e es m of_rest [] n =
+    ascends (only_before e) (side_by_side es []) (below_sides e.0 es [] (head_of e es m) tt)
     (of_rest [] tt)
-beside_rises e es m of_rest (a ∷ others) n =
+beside_ascends e es m of_rest (a ∷ others) n =
     let both : EntryKey × Sides = (e.0, (Some e.1, Some a.1)) in
     let some = side_by_side es (a ∷ others) in
     let less = side_by_side es others in
@@ -240,24 +240,24 @@ beside_rises e es m of_rest (a ∷ others) n =
     let later = tail_of a others n in
     elim (key_cmp e.0 a.0) as (λ r. key_cmp e.0 a.0 ≡ r → IsMap key_cmp (by_order r
     (only_before e ∷ some) (both ∷ less) (only_after a ∷ behind))) [
-      | Less ↦ λ r. rises (only_before e) some
+      | Less ↦ λ r. ascends (only_before e) some
           (below_sides e.0 es (a ∷ others) under (below_first e.0 a others r n))
           (of_rest (a ∷ others) n)
-      | Equal ↦ λ r. rises both less
+      | Equal ↦ λ r. ascends both less
           (below_sides e.0 es others under
           (below_tied_all key_cmp key_cmp_total e.0 a.0 others r (head_of a others n)))
           (of_rest others later)
       | Greater ↦ λ r.
           let first = below_first a.0 e es (turned e.0 a.0 r) m in
-          rises (only_after a) behind (below_sides a.0 (e ∷ es) others first (head_of a others n))
-          (beside_rises e es m of_rest others later)
+          ascends (only_after a) behind (below_sides a.0 (e ∷ es) others first (head_of a others n))
+          (beside_ascends e es m of_rest others later)
     ] refl
 
-sides_rise : (before after : Entries) → IsMap key_cmp before → IsMap key_cmp after
+sides_ascend : (before after : Entries) → IsMap key_cmp before → IsMap key_cmp after
     → IsMap key_cmp (side_by_side before after)
-sides_rise [] after m n = mapped-IsMap key_cmp (λ (c : Cell). (None, Some c)) after n
-sides_rise (e ∷ es) after m n =
-    beside_rises e es m (λ ys o. sides_rise es ys (tail_of e es m) o) after n
+sides_ascend [] after m n = mapped-IsMap key_cmp (λ (c : Cell). (None, Some c)) after n
+sides_ascend (e ∷ es) after m n =
+    beside_ascends e es m (λ ys o. sides_ascend es ys (tail_of e es m) o) after n
 
 -- ---- those that differ
 
@@ -282,12 +282,12 @@ pub are_changes : (before after : Entries) → IsMap key_cmp before → IsMap ke
     → AreChanges before after (differing (side_by_side before after))
 are_changes before after m n =
     let sides = side_by_side before after in
-    let rise = sides_rise before after m n in
+    let ascend = sides_ascend before after m n in
     let p = λ (e : EntryKey × Sides). not (is_same e.1.0 e.1.1) in
     record {
-      rise = filter-IsMap key_cmp p sides rise;
+      ascend = filter-IsMap key_cmp p sides ascend;
       each = λ key.
-          find-filter key_cmp p key_cmp_total key_cmp_exact key sides rise
+          find-filter key_cmp p key_cmp_total key_cmp_exact key sides ascend
           ∙ (ap (kept_if (λ (v : Sides). not (is_same v.0 v.1))) (find_sides key before after m n)
           ∙ kept_pair (find key_cmp key before) (find key_cmp key after));
     }
@@ -296,7 +296,8 @@ are_changes before after m n =
 pub one_changes : (before after : Entries) (a b : Changed) → AreChanges before after a
     → AreChanges before after b → a ≡ b
 one_changes before after a b f g =
-    same_maps key_cmp key_cmp_total key_cmp_exact a b f.rise g.rise (λ k. f.each k ∙ sym (g.each k))
+    same_maps key_cmp key_cmp_total key_cmp_exact a b f.ascend g.ascend (λ k. f.each k ∙ sym (g.each
+    k))
 
 module _ (before after : Entries) (changes : Changed) (are : AreChanges before after changes) where
   -- what it has at a key is what both have there, and they differ
@@ -338,7 +339,7 @@ module _ (before after : Entries) (changes : Changed) (are : AreChanges before a
   empty_if_equal m n = (
     λ e. same_maps key_cmp key_cmp_total key_cmp_exact before after m n
         (λ key. (alike_at key).0 (ap (find key_cmp key) e)),
-    λ e. same_maps key_cmp key_cmp_total key_cmp_exact changes [] are.rise tt
+    λ e. same_maps key_cmp key_cmp_total key_cmp_exact changes [] are.ascend tt
         (λ key. (alike_at key).1 (ap (find key_cmp key) e)),
   )
 
@@ -346,10 +347,10 @@ module _ (before after : Entries) (changes : Changed) (are : AreChanges before a
   pub made_is_after : IsMap key_cmp after → (made : Entries)
       → AreMade before changes made ↔ (made ≡ after)
   made_is_after n made = (
-    λ h. same_maps key_cmp key_cmp_total key_cmp_exact made after h.rise n
+    λ h. same_maps key_cmp key_cmp_total key_cmp_exact made after h.ascend n
         (λ key. h.each key ∙ made_there key),
     λ e. subst (AreMade before changes) (sym e)
-        (record { rise = n; each = λ key. sym (made_there key) }),
+        (record { ascend = n; each = λ key. sym (made_there key) }),
   ) where
     made_there : (key : EntryKey)
         → made_at (find key_cmp key changes) (find key_cmp key before) ≡ find key_cmp key after
@@ -373,7 +374,7 @@ pub part_changes : (messages : List ℕ → Bool) (before after : Entries) (chan
     → AreChanges before after changes
     → AreChanges (part_of messages before) (part_of messages after) (part_of messages changes)
 part_changes messages before after changes are = record {
-  rise = filter-IsMap key_cmp (λ (e : EntryKey × Sides). messages e.0.0) changes are.rise;
+  ascend = filter-IsMap key_cmp (λ (e : EntryKey × Sides). messages e.0.0) changes are.ascend;
   each = λ key.
       let a = find key_cmp key before in
       let b = find key_cmp key after in
@@ -399,7 +400,7 @@ turned_change a b = elim (change_cases a b) [
 pub exchanged_changes : (before after : Entries) (changes : Changed)
     → AreChanges before after changes → AreChanges after before (exchanged changes)
 exchanged_changes before after changes are = record {
-  rise = mapped-IsMap key_cmp turned_sides changes are.rise;
+  ascend = mapped-IsMap key_cmp turned_sides changes are.ascend;
   each = λ key.
       find-mapped key_cmp turned_sides key changes
       ∙ (ap (option_map turned_sides) (are.each key)

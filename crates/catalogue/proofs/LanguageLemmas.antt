@@ -33,7 +33,7 @@ there_of (Some x) found r v e t = ap is_some (sym v)
 -- a language that is there is not added
 pub added_there : (langs : LanguageMap) (lang : List ℕ) → IsMap text_cmp langs
     → is_in langs lang ≡ true → AddsLanguage langs lang langs
-added_there langs lang rise there = record { rise = rise; each = each } where
+added_there langs lang ascend there = record { ascend = ascend; each = each } where
   each : (other : List ℕ) → is_in langs other ≡ (is_eq (text_cmp other lang) || is_in langs other)
   each other = elim (cases_Bool (is_eq (text_cmp other lang))) [
     | inl e ↦
@@ -49,8 +49,8 @@ found_or false o = refl
 -- a language that is put is added
 pub added_put : (langs : LanguageMap) (lang : List ℕ) → IsMap text_cmp langs
     → AddsLanguage langs lang (put text_cmp lang tt langs)
-added_put langs lang rise = record {
-  rise = is_sorted-put text_cmp nat_list_cmp_total lang tt langs rise;
+added_put langs lang ascend = record {
+  ascend = is_sorted-put text_cmp nat_list_cmp_total lang tt langs ascend;
   each = λ other. ap is_some (find-put text_cmp nat_list_cmp_total other lang tt langs)
       ∙ found_or (is_eq (text_cmp other lang)) (find text_cmp other langs);
 }
@@ -59,7 +59,7 @@ added_put langs lang rise = record {
 
 -- the languages so far, and those of the cells that are left, are those of all cells
 pub record IsGathering (cells left : Entries) (langs : LanguageMap) : Type 0 where
-  pub rise : IsMap text_cmp langs
+  pub ascend : IsMap text_cmp langs
   pub each : (lang : List ℕ) → (is_in langs lang || is_used left lang) ≡ is_used cells lang
 
 -- ---- the languages of a message

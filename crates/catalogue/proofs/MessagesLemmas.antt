@@ -129,9 +129,9 @@ live_of-IsMap (e ∷ es) h =
     ]
 
 -- The languages of a message's live labels strictly ascend.
-pub languages_rise : (m : Nested) → IsCatalogue m → (id : List ℕ)
+pub languages_ascend : (m : Nested) → IsCatalogue m → (id : List ℕ)
     → IsMap text_cmp (live (flat m) id)
-languages_rise m nested id =
+languages_ascend m nested id =
     subst (IsMap text_cmp) (live-flat id m nested.outer)
     (elim (find text_cmp id m) as
     (λ o. find text_cmp id m ≡ o → IsMap text_cmp (live_of (inner_of o))) [
@@ -146,7 +146,7 @@ languages_rise m nested id =
 -- The computed messages are those with live labels, each once, in ascending order of id.
 pub are_messages : (m : Nested) → IsMap text_cmp m → AreMessages (flat m) (live_messages m)
 are_messages m sorted = record {
-  rise = live_messages-IsMap m sorted;
+  ascend = live_messages-IsMap m sorted;
   each = λ id. find-live_messages id m sorted ∙ ap if_any (live-flat id m sorted);
 }
 
@@ -156,7 +156,7 @@ are_messages m sorted = record {
 pub one_list_of_messages : (cells : Entries) (a b : List LiveMessage) → AreMessages cells a
     → AreMessages cells b → a ≡ b
 one_list_of_messages cells a b f g =
-    same_maps text_cmp nat_list_cmp_total text_exact a b f.rise g.rise
+    same_maps text_cmp nat_list_cmp_total text_exact a b f.ascend g.ascend
     (λ id. f.each id ∙ sym (g.each id))
 
 labels_are : (labels found : Labelled) → if_any found ≡ Some labels → labels ≡ found

@@ -26,7 +26,7 @@ change_of before after = if is_same before after then None else Some (before, af
 
 -- one entry for each key whose cells are not equal, or that one of them lacks, in ascending order
 pub record AreChanges (before after : Entries) (changes : Changed) : Type 0 where
-  pub rise : IsMap key_cmp changes
+  pub ascend : IsMap key_cmp changes
   pub each : (key : EntryKey)
       → find key_cmp key changes ≡ change_of (find key_cmp key before) (find key_cmp key after)
 
@@ -37,7 +37,7 @@ made_at (Some change) cell = change.1
 
 -- the catalogue before with the changes made
 pub record AreMade (before : Entries) (changes : Changed) (after : Entries) : Type 0 where
-  pub rise : IsMap key_cmp after
+  pub ascend : IsMap key_cmp after
   pub each : (key : EntryKey)
       → find key_cmp key after ≡ made_at (find key_cmp key changes) (find key_cmp key before)
 

@@ -26,10 +26,10 @@ is_used cells lang = list_any (λ e. is_some e.1.label && is_eq (text_cmp lang e
 
 -- each language that has a live label in some message, once, in ascending order
 pub record AreLanguages (cells : Entries) (langs : LanguageMap) : Type 0 where
-  pub rise : IsMap text_cmp langs
+  pub ascend : IsMap text_cmp langs
   pub each : (lang : List ℕ) → is_in langs lang ≡ is_used cells lang
 
 -- one language more, where it is not there yet
 pub record AddsLanguage (old : LanguageMap) (lang : List ℕ) (new : LanguageMap) : Type 0 where
-  pub rise : IsMap text_cmp new
+  pub ascend : IsMap text_cmp new
   pub each : (other : List ℕ) → is_in new other ≡ (is_eq (text_cmp other lang) || is_in old other)

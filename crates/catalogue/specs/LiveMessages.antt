@@ -17,5 +17,5 @@ if_any (label ∷ labels) = Some (label ∷ labels)
 
 -- each message that has a live label, once, in ascending order of id, with all its live labels
 pub record AreMessages (cells : Entries) (messages : List LiveMessage) : Type 0 where
-  pub rise : IsMap text_cmp messages
+  pub ascend : IsMap text_cmp messages
   pub each : (id : List ℕ) → find text_cmp id messages ≡ if_any (live cells id)

@@ -26,15 +26,15 @@ use nego_core::{PriorityList, Scheme, Widening, filter_lent};
 use std::alloc::{AllocError, Global};
 
 impl Catalogue {
-    /// The live labels of a message, in rising order of the languages' bytes.
+    /// The live labels of a message, in ascending order of the languages' bytes.
     pub fn labels(&self, id: &MessageId) -> Labels<'_>
         ensures { labels_left result ≡ live self.now id.now }
     {
         Labels::new(self.map().get(id))
     }
 
-    /// The messages that have a live label, each once, in rising order of the ids' bytes. What has
-    /// cells without labels alone is left out.
+    /// The messages that have a live label, each once, in ascending order of the ids' bytes. What
+    /// has cells without labels alone is left out.
     ///
     /// It takes no memory, and goes once over the messages and their cells.
     pub fn messages(&self) -> Messages<'_>

@@ -35,8 +35,8 @@ use std::marker::Model;
 /// Searching one cell costs about as much as visiting this many messages.
 const SEARCHES: u128 = 64;
 
-/// Cells by message and language, in rising order of the bytes of the id, then of the bytes of the
-/// language.
+/// Cells by message and language, in ascending order of the bytes of the id, then of the bytes of
+/// the language.
 ///
 /// Each key has the cell of the greatest stamp that came in: a last-writer-wins register (INRIA
 /// RR-7506, 3.2.1). A deletion is a cell without a label, and is kept.
@@ -104,8 +104,8 @@ impl Catalogue {
         self.len == 0
     }
 
-    /// The cell at a place in rising order of key, from 0, with its message and language; none from
-    /// `len` on.
+    /// The cell at a place in ascending order of key, from 0, with its message and language; none
+    /// from `len` on.
     ///
     /// It walks over the messages in front: to see all cells, take [`Catalogue::iter`].
     pub fn nth(&self, place: u128) -> Option<(&MessageId, &Lang, &Cell)>
@@ -115,7 +115,7 @@ impl Catalogue {
         places::entry(&self.map, place)
     }
 
-    /// All cells, each with its message and language, in rising order of key.
+    /// All cells, each with its message and language, in ascending order of key.
     pub fn iter(&self) -> Cells<'_>
         ensures cells { cells_left result ≡ self.now }
         ensures sorted { IsMap key_cmp self.now }
@@ -124,7 +124,7 @@ impl Catalogue {
     }
 
     /// What changed from this catalogue to the other: each key whose cells are not equal, or that
-    /// one of them lacks, with both cells, in rising order of key.
+    /// one of them lacks, with both cells, in ascending order of key.
     ///
     /// It takes no memory, and goes once over the cells of both.
     pub fn changes<'a>(&'a self, after: &'a Catalogue) -> Changes<'a>

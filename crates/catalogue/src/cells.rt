@@ -5,8 +5,8 @@ ghost use Rattle.std.specs.Iterator.{YieldsFirstBy, item_count};
 use cell_core::{Cell, Iter, Keyed, MessageId};
 use lang_core::Lang;
 
-/// Iterates over the cells of a catalogue, each with its message and language, in rising order of
-/// key.
+/// Iterates over the cells of a catalogue, each with its message and language, in ascending order
+/// of key.
 #[derive(Debug, Drop)]
 pub struct Cells<'a> {
     current: Option<MessageCells<'a>>,
@@ -18,7 +18,7 @@ impl<'a> Cells<'a> {
     ghost use Rattle.catalogue.specs.CatalogueFlat.{flat};
     ghost use Rattle.catalogue.specs.Cells.{cells_left};
 
-    /// All cells of a map of maps, in rising order of key.
+    /// All cells of a map of maps, in ascending order of key.
     pub fn new(map: &'a Keyed<MessageId, Keyed<Lang, Cell>>) -> Cells<'a>
         ensures { cells_left result ≡ flat map.now }
     {
@@ -55,8 +55,8 @@ impl<'a> Iterator for Cells<'a> {
     }
 }
 
-/// Iterates over the cells of a message, each with the message and its language, in rising order of
-/// language.
+/// Iterates over the cells of a message, each with the message and its language, in ascending order
+/// of language.
 #[derive(Debug, Drop)]
 struct MessageCells<'a> {
     id: &'a MessageId,

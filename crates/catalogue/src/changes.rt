@@ -26,7 +26,7 @@ pub struct Change<'a> {
     pub after: Option<&'a Cell>,
 }
 
-/// Iterates over the keys at which two catalogues differ, in rising order of key.
+/// Iterates over the keys at which two catalogues differ, in ascending order of key.
 #[derive(Debug, Drop)]
 pub struct Changes<'a> {
     sides: BothSides<'a>,
@@ -70,7 +70,7 @@ impl<'a> Iterator for Changes<'a> {
     }
 }
 
-/// Iterates over the keys of either of two catalogues, each with what both have there, in rising
+/// Iterates over the keys of either of two catalogues, each with what both have there, in ascending
 /// order of key.
 #[derive(Debug, Drop)]
 struct BothSides<'a> {

@@ -7,8 +7,8 @@ ghost use Rattle.catalogue.specs.Labels.{live_left};
 use cell_core::{Cell, Iter, Keyed, Label};
 use lang_core::Lang;
 
-/// Iterates over the languages of a message whose cell has a label, each with its label, in rising
-/// order of their bytes.
+/// Iterates over the languages of a message whose cell has a label, each with its label, in
+/// ascending order of their bytes.
 #[derive(Debug, Drop)]
 pub struct Labels<'a> {
     cells: Option<Iter<'a, Lang, Cell>>,
@@ -25,7 +25,7 @@ impl<'a> Labels<'a> {
     /// The live labels of these cells.
     pub(crate) fn new(cells: Option<&'a Keyed<Lang, Cell>>) -> Labels<'a>
         ensures labels { labels_left result ≡ live_of (inner_of (option_copied cells.entry)) }
-        ensures rise { IsMap text_cmp (labels_left result) }
+        ensures ascend { IsMap text_cmp (labels_left result) }
     {
         match cells {
             Some(cells) => Labels {

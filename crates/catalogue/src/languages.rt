@@ -30,7 +30,7 @@ impl Catalogue {
     }
 }
 
-/// The languages of such a map in a list, in rising order of their bytes, as
+/// The languages of such a map in a list, in ascending order of their bytes, as
 /// [`Shortlist::new`](nego_core::Shortlist::new) takes them.
 ///
 /// Out of memory is the only refusal.

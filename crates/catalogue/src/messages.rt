@@ -46,7 +46,7 @@ impl<'a> Message<'a> {
         self.id
     }
 
-    /// Its live labels, in rising order of the languages' bytes.
+    /// Its live labels, in ascending order of the languages' bytes.
     pub fn labels(&self) -> Labels<'a>
         ensures { labels_left result ≡ self.now.1 }
     {
@@ -106,7 +106,7 @@ impl<'a> Message<'a> {
     }
 }
 
-/// Iterates over the messages of a catalogue that have a live label, in rising order of the ids'
+/// Iterates over the messages of a catalogue that have a live label, in ascending order of the ids'
 /// bytes.
 #[derive(Debug, Drop)]
 pub struct Messages<'a> {

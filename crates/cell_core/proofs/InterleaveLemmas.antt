@@ -17,7 +17,7 @@ use Rattle.cell_core.specs.InterleaveMissing.{is_new}
 use Rattle.cell_core.specs.InterleaveMissing.{IsCommonJoined}
 use Rattle.cell_core.proofs.Basics.{first_part, second_part, less_than, some_not_none, tied_order}
 use Rattle.cell_core.proofs.KeyedPlacesLemmas.{place_of-le, put_at_gap}
-use Rattle.cell_core.proofs.KeyedWalkLemmas.{above, below, above_above, place_rises}
+use Rattle.cell_core.proofs.KeyedWalkLemmas.{above, below, above_above, place_ascends}
 use Rattle.cell_core.proofs.PairsCommonLemmas.{parts_joined}
 
 insert_between : {X : Type 0} (xs ys : List X) (y : X)
@@ -103,7 +103,7 @@ module _ {K J : Type 0} {cmp : K → K → Ordering} (total : IsTotalOrder cmp) 
       let q = m.1.0 in
       let less : cmp k q ≡ Less =
       less_than (cmp k q) (first_part (is_lt (cmp k q)) (below_all cmp k (pairs_of ms)) h) in (
-        omega (arith, is, gaps.0.is, place_rises cmp total k q es less),
+        omega (arith, is, gaps.0.is, place_ascends cmp total k q es less),
         AllFrom-gaps k es at up ms
             is (second_part (is_lt (cmp k q)) (below_all cmp k (pairs_of ms)) h) gaps.1,
       )

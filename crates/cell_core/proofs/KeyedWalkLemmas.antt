@@ -63,10 +63,10 @@ module _ {K J : Type 0} (cmp : K → K → Ordering) where
         ))
 
     -- the greater key has its place no earlier
-    pub place_rises : (x y : K) (es : List (K × J)) → cmp x y ≡ Less
+    pub place_ascends : (x y : K) (es : List (K × J)) → cmp x y ≡ Less
         → place_of cmp x es ≤ place_of cmp y es
-    place_rises x y [] p = omega arith
-    place_rises x y (e ∷ es) p =
+    place_ascends x y [] p = omega arith
+    place_ascends x y (e ∷ es) p =
         elim (cmp x e.0) as
         (λ r. cmp x e.0 ≡ r
         → cond (is_gt r) (suc (place_of cmp x es)) 0
@@ -77,7 +77,7 @@ module _ {K J : Type 0} (cmp : K → K → Ordering) where
               let t : is_gt (cmp y e.0) ≡ true =
               ap is_gt
               (above cmp total e.0 y (total.trans e.0 x y (below cmp total x e.0 q) p)) in
-              rw t (omega (arith, place_rises x y es p))
+              rw t (omega (arith, place_ascends x y es p))
         ] refl
 
     -- the key was found
@@ -153,14 +153,17 @@ module _ {K J : Type 0} (cmp : K → K → Ordering) where
         place_found key es at d (place_tied key es at d map tie lt) lt tie
 
     -- keys of a map ascend from one place to the next
-    pub rises : (es : List (K × J)) (i : ℕ) (d : K × J) → IsMap cmp es → suc i < length es
+    pub ascends : (es : List (K × J)) (i : ℕ) (d : K × J) → IsMap cmp es → suc i < length es
         → (let e = get_or es i d in let f = get_or es (suc i) d in cmp e.0 f.0 ≡ Less)
-    rises [] i d map lt = absurd (omega (arith, lt))
-    rises (e ∷ es) zero d map lt =
+    ascends [] i d map lt = absurd (omega (arith, lt))
+    ascends (e ∷ es) zero d map lt =
         below-at cmp e.0 es 0 d (first_part (below_all cmp e.0 es) (is_sorted cmp es) map)
         (omega (arith, lt))
-    rises (e ∷ es) (suc i) d map lt =
-        rises es i d (second_part (below_all cmp e.0 es) (is_sorted cmp es) map) (omega (arith, lt))
+    ascends (e ∷ es) (suc i) d map lt =
+        ascends es i d (second_part (below_all cmp e.0 es) (is_sorted cmp es) map) (omega (
+          arith,
+          lt,
+        ))
 
     -- the next key of a walk is above this one
     pub next_above : (es : List (K × J)) (i : ℕ) (k : K) (v : J) (d : K × J) → IsMap cmp es
@@ -171,7 +174,7 @@ module _ {K J : Type 0} (cmp : K → K → Ordering) where
         let more : suc i < length es = omega arith in
         rw add-one
         (ap (λ (e : K × J). let f = get_or es (suc i) d in cmp e.0 f.0)
-        (is ∙ get_or_default es i (k, v) d here) ∙ rises es i d map more)
+        (is ∙ get_or_default es i (k, v) d here) ∙ ascends es i d map more)
 
     -- where a walk through one map goes on in the other
     pub on_after_place : (es other : List (K × J)) (i at : ℕ) (k : K) (v : J) (d : K × J)
@@ -186,4 +189,4 @@ module _ {K J : Type 0} (cmp : K → K → Ordering) where
         → IsMap cmp es → (k, v) ≡ get_or es i (k, v) → IsGap cmp k other at → i + 1 < length es
         → (let f = get_or es (i + 1) d in at ≤ place_of cmp f.0 other)
     on_after_gap es other i at k v d map is gap lt = let f = get_or es (i + 1) d in
-        omega (arith, gap.is, place_rises k f.0 other (next_above es i k v d map is lt))
+        omega (arith, gap.is, place_ascends k f.0 other (next_above es i k v d map is lt))

@@ -1,4 +1,4 @@
-//! Entries in rising order of their keys, in chunks: a new key moves the entries of one chunk
+//! Entries in ascending order of their keys, in chunks: a new key moves the entries of one chunk
 //! alone.
 
 ghost use Rattle.std.specs.Prelude.{◌≡◌, ◌+◌, ◌-◌, ◌<◌, ◌≤◌, ◌∷◌, ◌++◌, [], IfOk, IfErr, OnOk};

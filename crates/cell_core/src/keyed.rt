@@ -1,4 +1,4 @@
-//! Maps from keys to values that join, in rising order of the keys.
+//! Maps from keys to values that join, in ascending order of the keys.
 
 ghost use Rattle.std.specs.Prelude.{◌≡◌, ◌-◌, ◌↔◌, ◌∷◌, ◌++◌, [], IsTrue, IfErr, OnOk, IsOk};
 ghost use Rattle.std.specs.Prelude.{IsSome};
@@ -26,7 +26,7 @@ use std::alloc::{AllocError, Global};
 use std::fmt;
 use std::marker::Model;
 
-/// A finite map from keys to values, whose entries are in strictly rising order of the keys.
+/// A finite map from keys to values, whose entries are in strictly ascending order of the keys.
 ///
 /// Maps of values that join, join key by key; see [`Join`]. Two maps agree where their values agree
 /// at each key that both have, and their join has at a key of one alone that one's value, and at a
@@ -91,7 +91,7 @@ impl<K: Key, J> Keyed<K, J> {
         self.len() == 0
     }
 
-    /// The entry at a place in rising order of the keys, counted from 0; none from `len` on.
+    /// The entry at a place in ascending order of the keys, counted from 0; none from `len` on.
     pub fn nth(&self, place: usize) -> Option<(&K, &J)>
         ensures entry { option_map (λ e. (e.0.now, e.1.now)) result ≡ slice_get self.now place }
         ensures map { IsMap K.cmp self.now }
@@ -200,7 +200,7 @@ impl<K: Key, J> Keyed<K, J> {
         append(&mut self.chunks, key, value)
     }
 
-    /// An iterator over the entries in rising order of the keys.
+    /// An iterator over the entries in ascending order of the keys.
     pub fn iter(&self) -> Iter<'_, K, J>
         ensures rest { entries_left result ≡ self.now }
         ensures map { IsMap K.cmp self.now }
@@ -236,7 +236,7 @@ impl<K: Key, J: Eq> Eq for Keyed<K, J> {
         (and_equiv (on_equiv (λ p. p.0) K.Eq.laws) (on_equiv (λ p. p.1) J.Eq.laws)) };
 }
 
-/// Lists the entries, in rising order of the keys.
+/// Lists the entries, in ascending order of the keys.
 impl<K: Key + fmt::Debug, J: fmt::Debug> fmt::Debug for Keyed<K, J> {
     fn fmt<W: fmt::Write>(&self, f: &mut fmt::Formatter<W>) -> fmt::Result {
         f.debug_map().entries(self.iter()).finish()

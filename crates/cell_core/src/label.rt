@@ -16,10 +16,10 @@ use std::marker::Model;
 use std::sync::Arc;
 
 /// The most texts of a label.
-const MOST_TEXTS: usize = 64;
+const MAX_TEXTS: usize = 64;
 
 /// The most bytes of a text.
-const MOST_BYTES: usize = 65_535;
+const MAX_BYTES: usize = 65_535;
 
 /// The label of a message in one language: 1 to 64 texts, in order, of at most 65,535 bytes each.
 ///
@@ -125,7 +125,7 @@ fn check_texts(texts: &[String]) -> Result<(), CellFault>
         MatchResult result (λ _. IsLabel bytes) (RefusesTexts bytes) }
 {
     let count = texts.len();
-    if count == 0 || count > MOST_TEXTS {
+    if count == 0 || count > MAX_TEXTS {
         return Err(CellFault::LabelCount { count });
     }
     match first_too_long(texts) {
@@ -145,7 +145,7 @@ fn first_too_long(texts: &[String]) -> Option<usize>
 fn is_too_long(text: &String) -> bool
     ensures { result ≡ is_too_long (string_bytes text.now) }
 {
-    text.as_bytes().len() > MOST_BYTES
+    text.as_bytes().len() > MAX_BYTES
 }
 
 /// Copies of the texts, in order.

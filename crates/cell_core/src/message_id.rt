@@ -22,10 +22,10 @@ use std::fmt;
 use std::marker::Model;
 
 /// The most bytes of an id.
-const MOST_BYTES: usize = 128;
+const MAX_BYTES: usize = 128;
 
 /// The most bytes of an id that takes no memory.
-const MOST_SHORT_BYTES: usize = 32;
+const MAX_SHORT_BYTES: usize = 32;
 
 /// The id of a message: 1 to 128 bytes, none of them below 32 and none 127, the first not `@`.
 ///
@@ -162,7 +162,7 @@ impl Key for MessageId {
 #[derive(Drop)]
 enum IdText {
     /// Padded with zero bytes. That it is UTF-8 is in the invariant, and is not tested again.
-    Short([u8; MOST_SHORT_BYTES]),
+    Short([u8; MAX_SHORT_BYTES]),
     Long(String),
 }
 
@@ -173,7 +173,7 @@ impl IdText {
         ensures { MatchResult result (λ stored. KeepsId stored × (id_bytes stored ≡ text.now))
             (λ _. IdTakesMemory text.now) }
     {
-        if text.len() > MOST_SHORT_BYTES {
+        if text.len() > MAX_SHORT_BYTES {
             return Ok(IdText::Long(String::from_str(alloc, text)?));
         }
         Ok(IdText::short(text))
@@ -184,7 +184,7 @@ impl IdText {
         requires { IsMessageId (string_bytes text) }
         ensures { KeepsId result × (id_bytes result ≡ string_bytes text) }
     {
-        if text.len() <= MOST_SHORT_BYTES {
+        if text.len() <= MAX_SHORT_BYTES {
             return IdText::short(text.as_str());
         }
         IdText::Long(text)
@@ -266,7 +266,7 @@ fn is_message_id(bytes: &[u8]) -> bool
 {
     match bytes.first() {
         None | Some(b'@') => false,
-        Some(_) => bytes.len() <= MOST_BYTES && are_id_bytes(bytes),
+        Some(_) => bytes.len() <= MAX_BYTES && are_id_bytes(bytes),
     }
 }
 

@@ -1,4 +1,4 @@
-//! Entries in rising order of their keys, side by side in memory: the comparison and the join of
+//! Entries in ascending order of their keys, side by side in memory: the comparison and the join of
 //! two runs.
 
 ghost use Rattle.std.specs.Prelude.{◌≡◌, ◌≤◌, ◌↔◌, ◌∷◌, ◌++◌, [], IfOk, IfErr, OnOk, OnErr, IsTrue};

@@ -16,7 +16,7 @@ use std::fmt;
 use std::marker::Model;
 
 /// The most bytes of a name.
-const MOST_BYTES: usize = 16;
+const MAX_BYTES: usize = 16;
 
 /// How many digits the name of a numbered site has.
 const DIGITS: usize = 10;
@@ -27,7 +27,7 @@ const DIGITS: usize = 10;
 #[derive(Clone, Copy)]
 pub struct SiteName {
     // The text, padded with zero bytes.
-    bytes: [u8; MOST_BYTES],
+    bytes: [u8; MAX_BYTES],
 }
 
 impl Model for SiteName {
@@ -57,7 +57,7 @@ impl SiteName {
             (RefusesName text.now) }
     {
         let bytes = text.as_bytes();
-        if bytes.is_empty() || bytes.len() > MOST_BYTES || !are_site_bytes(bytes) {
+        if bytes.is_empty() || bytes.len() > MAX_BYTES || !are_site_bytes(bytes) {
             return Err(CellFault::SiteName);
         }
         Ok(SiteName {

@@ -45,7 +45,7 @@ use Rattle.docs_core.specs.Updating.{AreChanges, IsUpdated, RefusesUpdate, Spend
 use Rattle.docs_core.proofs.CallRefusals.{ahead_not_in_time, cells_not_refused}
 use Rattle.docs_core.proofs.CallRefusals.{one_ahead, one_cell_cause, one_of_cells}
 use Rattle.docs_core.proofs.CallRefusals.{one_of_document, one_of_site_call, one_of_site_document}
-use Rattle.docs_core.proofs.CallRefusals.{site_not_refused, site_rises}
+use Rattle.docs_core.proofs.CallRefusals.{site_not_refused, site_ascends}
 use Rattle.docs_core.proofs.SitesOneRefusal.{cells_named, langmaps, one_cause, read_not_refused}
 use Rattle.docs_core.proofs.SitesOneRefusal.{stamps_named}
 use Rattle.docs_core.proofs.TimeLimitsLemmas.{synced_same, taken_same}
@@ -173,7 +173,7 @@ sync_not_refused a b limit x y fault
                     ahead_not_in_time 2 limit second.cells fault second_in_time two.1
               ]
           | inr (f, s, r, t, u, v, clash) ↦ cells_not_refused first.cells second.cells fault agree
-              (site_rises b second second_reads)
+              (site_ascends b second second_reads)
               (subst (λ (z : SiteState). IsOfSite (IsRefusal first.cells z.cells) fault)
               (same_second s t) (subst (λ (z : SiteState).
               IsOfSite (IsRefusal z.cells s.cells) fault) (same_first f r) clash))
@@ -336,13 +336,13 @@ one_delta_until number limit bytes x y p q = elim p [
 taken_not_refused : (site : SiteState) (delta : DeltaState) (fault : DocFault)
     → IsMap key_cmp site.cells → site.name ≡ delta.addressee → Agree site.cells delta.cells
     → IsOfSite (NotTaken site delta) fault → ⊥
-taken_not_refused site delta fault rises mine agree
+taken_not_refused site delta fault ascends mine agree
     (cata.StampReused place stamp, apart, why, is) =
-    clash_not_agree site.cells delta.cells place stamp rises why.1 agree
-taken_not_refused site delta fault rises mine agree (cata.ClockSpent, apart, why, is) = why.1
-taken_not_refused site delta fault rises mine agree (cata.NotForMe addressee, apart, why, is) =
+    clash_not_agree site.cells delta.cells place stamp ascends why.1 agree
+taken_not_refused site delta fault ascends mine agree (cata.ClockSpent, apart, why, is) = why.1
+taken_not_refused site delta fault ascends mine agree (cata.NotForMe addressee, apart, why, is) =
     why.1 mine
-taken_not_refused site delta fault rises mine agree (cata.NoMemory, apart, why, is) = apart refl
+taken_not_refused site delta fault ascends mine agree (cata.NoMemory, apart, why, is) = apart refl
 
 one_taken_cause : (site : SiteState) (delta : DeltaState) (a b : CataFault) → a ≢ cata.NoMemory
     → b ≢ cata.NoMemory → NotTaken site delta a → NotTaken site delta b → a ≡ b
@@ -369,7 +369,7 @@ take_not_refused a b limit text fault (site, delta, reads, timely, mine, agree, 
       | inl refused ↦ site_not_refused 1 a site fault reads refused
       | inr later ↦ elim later as (λ _. ⊥) [
         | inl (s, r, refused) ↦ delta_in_time_not_refused 2 limit b delta fault timely refused
-        | inr (s, d, r, t, clash) ↦ taken_not_refused site delta fault (site_rises a site reads)
+        | inr (s, d, r, t, clash) ↦ taken_not_refused site delta fault (site_ascends a site reads)
             mine agree (subst (λ (e : DeltaState). IsOfSite (NotTaken site e) fault)
             (one_delta b d delta t.0 timely.0) (subst (λ (z : SiteState).
             IsOfSite (NotTaken z d) fault) (one_site a s site r reads) clash))

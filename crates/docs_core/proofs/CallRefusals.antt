@@ -19,9 +19,9 @@ use Rattle.json_docs.specs.declared.fault.DocCause.TheVariants.{TimeAhead}
 use Rattle.json_docs.specs.declared.fault.DocFault.{DocFault}
 use Rattle.row_docs.specs.Headers.{rows_in, version_of}
 use Rattle.row_docs.specs.Reading.{IsOfDocument}
-use Rattle.row_docs.specs.Rising.{cell_checks}
+use Rattle.row_docs.specs.Ascending.{cell_checks}
 use Rattle.row_docs.specs.declared.kind.Kind.TheVariants as kind
-use Rattle.row_docs.proofs.RisingKeys.{cells_rise}
+use Rattle.row_docs.proofs.AscendingKeys.{cells_ascend}
 use Rattle.site_docs.specs.Reading.{ReadsAsSite, RefusesSite}
 use Rattle.site_docs.specs.SiteDocuments.{IsSiteDocument, site_checks}
 use Rattle.docs_core.specs.Calls.{IsOfSite}
@@ -52,10 +52,10 @@ site_not_refused number bytes site fault reads (cause, why, is) =
     read_not_refused site_checks (cells_named kind.Site) IsSiteDocument bytes site cause reads why
 
 -- the keys of a site that is read ascend
-pub site_rises : (bytes : List ℕ) (site : SiteState) → ReadsAsSite bytes site
+pub site_ascends : (bytes : List ℕ) (site : SiteState) → ReadsAsSite bytes site
     → IsMap key_cmp site.cells
-site_rises bytes site (d, json, pass, is) =
-    cells_rise (version_of d) (rows_in kind.Site d) site.cells
+site_ascends bytes site (d, json, pass, is) =
+    cells_ascend (version_of d) (rows_in kind.Site d) site.cells
     (document_rows kind.Site cell_checks d pass) is.cells
 
 -- ---- of a time
@@ -107,20 +107,20 @@ one_ahead number (Some limit) cells x y (row, a, is) (other, b, same) =
 -- ---- of two sites
 
 -- cells that agree with a map are one
-agree_rises : (own other : Entries) → Agree own other → IsMap key_cmp other → IsMap key_cmp own
-agree_rises own other agree rises = elim agree as (λ _. IsMap key_cmp own) [
-  | inl same ↦ subst (IsMap key_cmp) (sym same) rises
+agree_ascends : (own other : Entries) → Agree own other → IsMap key_cmp other → IsMap key_cmp own
+agree_ascends own other agree ascends = elim agree as (λ _. IsMap key_cmp own) [
+  | inl same ↦ subst (IsMap key_cmp) (sym same) ascends
   | inr maps ↦ maps.first
 ]
 
 -- cells that agree with those of a site that is read are not refused
 pub cells_not_refused : (own other : Entries) (fault : DocFault) → Agree own other
     → IsMap key_cmp other → IsOfSite (IsRefusal own other) fault → ⊥
-cells_not_refused own other fault agree rises (cata.StampReused place stamp, apart, why, is) =
-    clash_not_agree own other place stamp (agree_rises own other agree rises) why agree
-cells_not_refused own other fault agree rises (cata.ClockSpent, apart, why, is) = why
-cells_not_refused own other fault agree rises (cata.NotForMe addressee, apart, why, is) = why
-cells_not_refused own other fault agree rises (cata.NoMemory, apart, why, is) = apart refl
+cells_not_refused own other fault agree ascends (cata.StampReused place stamp, apart, why, is) =
+    clash_not_agree own other place stamp (agree_ascends own other agree ascends) why agree
+cells_not_refused own other fault agree ascends (cata.ClockSpent, apart, why, is) = why
+cells_not_refused own other fault agree ascends (cata.NotForMe addressee, apart, why, is) = why
+cells_not_refused own other fault agree ascends (cata.NoMemory, apart, why, is) = apart refl
 
 -- a site's call refuses by one fault, where it has one cause
 pub one_of_site_call : (Refuses : CataFault → Type 0)

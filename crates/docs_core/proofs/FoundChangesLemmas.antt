@@ -241,7 +241,7 @@ found_all old new olds news seen done so no_olds no_news map =
     (so.rest seen (refl, map) []
     (subst (λ (os : List Labelled). AreChanges os news seen []) (sym no_olds)
     (subst (λ (ns : List Labelled). AreChanges [] ns seen []) (sym no_news)
-    (record { rising = tt; at = λ key. inl (inl refl, refl) }))))
+    (record { ascending = tt; at = λ key. inl (inl refl, refl) }))))
 
 -- the changes between equal labels are the same
 pub found_from : (old was new is : List Labelled) (cells : Entries) (changes : List Change)

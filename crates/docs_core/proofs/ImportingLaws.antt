@@ -36,13 +36,14 @@ pub import_of_export : (now : ℕ) (name : List ℕ) (cells imported : Entries) 
     → Imports now name (live_labels cells) [] imported → live_labels imported ≡ live_labels cells
 import_of_export now name cells imported m imports =
     let labels = live_labels cells in
-    let rise = live-IsMap cells m in
+    let ascend = live-IsMap cells m in
     let after = made-IsMap now name (puts_of labels) [] imported tt imports in
     same_maps key_cmp key_cmp_total key_cmp_exact (live_labels imported) labels
-    (live-IsMap imported after) rise
+    (live-IsMap imported after) ascend
     (λ key. find-live key imported after
     ∙ elim (find key_cmp key labels) as (λ o. find key_cmp key labels ≡ o
     → label_at key imported ≡ o) [
-      | Some label ↦ λ at. import_puts now name labels [] imported rise imports key label at
-      | None ↦ λ none. ap label_in (import_leaves now name labels [] imported rise imports key none)
+      | Some label ↦ λ at. import_puts now name labels [] imported ascend imports key label at
+      | None ↦ λ none. ap label_in (import_leaves now name labels [] imported ascend imports key
+          none)
     ] refl)

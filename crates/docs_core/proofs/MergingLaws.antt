@@ -41,7 +41,7 @@ use Rattle.docs_core.specs.TimeLimits.{AreSyncedUntil}
 use Rattle.site_docs.specs.RowsInTime.{AreInTime, IsInTime, IsTimeAhead}
 use Rattle.docs_core.proofs.CallRefusals.{ahead_not_in_time, all_at, cells_not_refused}
 use Rattle.docs_core.proofs.CallRefusals.{one_ahead, one_of_cells, one_of_site_document}
-use Rattle.docs_core.proofs.CallRefusals.{site_not_refused, site_rises}
+use Rattle.docs_core.proofs.CallRefusals.{site_not_refused, site_ascends}
 use Rattle.docs_core.proofs.MergingLemmas.{merged_first, merged_more, none_in}
 use Rattle.docs_core.proofs.TimeLimitsLemmas.{synced_same}
 
@@ -109,7 +109,7 @@ merged_not_refused limit (b ∷ before) document after first others fault so
             | inl ahead ↦ ahead_not_in_time number limit site.cells fault in_time
                 (subst (λ (s : SiteState). IsTimeAhead number limit s.cells fault) same ahead)
             | inr (timely, clash) ↦ cells_not_refused (joined_all first.cells at.0) site.cells
-                fault agree (site_rises document site at.5)
+                fault agree (site_ascends document site at.5)
                 (subst (λ (s : SiteState).
                 IsOfSite (IsRefusal (joined_all first.cells at.0) s.cells) fault) same
                 (subst (λ (es : Entries). IsOfSite (IsRefusal es other.cells) fault) cells clash))
@@ -742,24 +742,24 @@ module _ (messages : List ℕ → Bool) where
       ≡ joined_all (part_of messages cells) (map part sites)
   part_joined cells [] own each = refl
   part_joined cells (s ∷ sites) own each =
-      let rises = each s (inl refl) in
+      let ascends = each s (inl refl) in
       part_joined (joined cells s.cells) sites
-      (joined_maps-IsMap key_cmp key_cmp_total joined_cells cells s.cells own rises)
+      (joined_maps-IsMap key_cmp key_cmp_total joined_cells cells s.cells own ascends)
       (λ t at. each t (inr at))
       ∙ ap (λ (es : Entries). joined_all es (map part sites))
-      (parts_join messages cells s.cells own rises)
+      (parts_join messages cells s.cells own ascends)
 
   part_turn : (cells : Entries) (sites : List SiteState) → IsMap key_cmp cells
       → ((s : SiteState) → In sites s → IsMap key_cmp s.cells) → InTurn cells sites
       → InTurn (part_of messages cells) (map part sites)
   part_turn cells [] own each turn = tt
   part_turn cells (s ∷ sites) own each turn =
-      let rises = each s (inl refl) in (
+      let ascends = each s (inl refl) in (
         parts_agree messages cells s.cells turn.0,
         subst (λ (es : Entries). InTurn es (map part sites))
-            (parts_join messages cells s.cells own rises)
+            (parts_join messages cells s.cells own ascends)
             (part_turn (joined cells s.cells) sites
-            (joined_maps-IsMap key_cmp key_cmp_total joined_cells cells s.cells own rises)
+            (joined_maps-IsMap key_cmp key_cmp_total joined_cells cells s.cells own ascends)
             (λ t at. each t (inr at)) turn.1),
       )
 
@@ -777,11 +777,11 @@ module _ (messages : List ℕ → Bool) where
       one_site text after (merged_site first others) after_reads is.1 in
       let read = subst (λ (ss : List SiteState). ReadAsSites (documents_of parts) (map part ss))
       same part_reads in
-      let rises : (s : SiteState) → In (first ∷ others) s → IsMap key_cmp s.cells =
+      let ascends : (s : SiteState) → In (first ∷ others) s → IsMap key_cmp s.cells =
       λ s at. let d = zip_back ReadsAsSite (documents_of whole) (first ∷ others) s so.read at in
-      site_rises d.0 s d.2 in
-      let own = rises first (inl refl) in
-      let each = λ (s : SiteState) (at : In others s). rises s (inr at) in (
+      site_ascends d.0 s d.2 in
+      let own = ascends first (inl refl) in
+      let each = λ (s : SiteState) (at : In others s). ascends s (inr at) in (
         part first,
         map part others,
         record {

@@ -34,14 +34,14 @@ use Rattle.row_docs.specs.Reading.{Reads}
 use Rattle.site_docs.specs.Reading.{ReadsAsDelta, ReadsAsSite, ReadsAsSummary}
 use Rattle.row_docs.specs.ShapesRows.{label_in}
 use Rattle.site_docs.specs.SiteDocuments.{IsDeltaDocument, IsSiteDocument, IsSummaryDocument}
-use Rattle.row_docs.specs.Rising.{AreEntries, cell_checks, entry_in, stamp_checks}
+use Rattle.row_docs.specs.Ascending.{AreEntries, cell_checks, entry_in, stamp_checks}
 use Rattle.site_docs.specs.SiteDocuments.{delta_checks, document_checks, site_checks}
 use Rattle.site_docs.specs.SiteDocuments.{subject_checks, summary_checks}
 use Rattle.row_docs.specs.declared.kind.Kind.{Kind}
 use Rattle.row_docs.specs.declared.kind.Kind.TheVariants as kind
 use Rattle.row_docs.specs.declared.version.Version.{Version}
 use Rattle.row_docs.specs.declared.version.Version.TheVariants.{One}
-use Rattle.row_docs.proofs.RisingKeys.{cells_rise, stamps_rise}
+use Rattle.row_docs.proofs.AscendingKeys.{cells_ascend, stamps_ascend}
 use Rattle.script_docs.specs.Reading.{IsScriptDocument, ReadsAsScript, script_checks}
 use Rattle.script_docs.specs.Scripts.{ScriptState}
 use Rattle.docs_core.specs.Calls.{AreSynced}
@@ -188,10 +188,10 @@ same_sorted f [] = refl
 same_sorted f (e ∷ es) = ap₂ (λ s t. s && t) (same_below f e.0 es) (same_sorted f es)
 
 -- where the migrated entries ascend, so do the old ones
-old_rise : (olds : OldEntries) (es : Entries) → es ≡ migrated_entries olds → IsMap key_cmp es
+old_ascend : (olds : OldEntries) (es : Entries) → es ≡ migrated_entries olds → IsMap key_cmp es
     → IsMap key_cmp olds
-old_rise olds es same rise =
-    subst T (ap (is_sorted key_cmp) same ∙ same_sorted migrated_cell olds) rise
+old_ascend olds es same ascend =
+    subst T (ap (is_sorted key_cmp) same ∙ same_sorted migrated_cell olds) ascend
 
 -- ---- documents
 
@@ -227,8 +227,8 @@ cells_fit : (kind : Kind) (d : Data) (es : Entries) (olds : OldEntries)
     → map old_entry_in (rows_in kind d) ≡ map Some olds → es ≡ migrated_entries olds
     → IsOldMap olds
 cells_fit kind d es olds pass small are olds_are same = record {
-  map = old_rise olds es same
-      (cells_rise (version_of d) (rows_in kind d) es (document_rows kind cell_checks d pass) are);
+  map = old_ascend olds es same
+      (cells_ascend (version_of d) (rows_in kind d) es (document_rows kind cell_checks d pass) are);
   stamps = found_holds (λ (c : OldCell). IsOldStamp c.stamp) olds
       (entries_fit (rows_in kind d) olds (rows_small kind d small) olds_are);
 }
@@ -271,12 +271,13 @@ summary_holds : (d : Data) (summary : SummaryState) (old : OldSummary)
     → IsOldSummaryDocument d old → summary ≡ migrated_summary old → IsOldSummary old
 summary_holds d summary old pass small is was same =
     let rows = document_rows kind.Summary stamp_checks d pass in
-    let rise = stamps_rise (version_of d) (rows_in kind.Summary d) summary.stamps rows is.stamps in
+    let ascend = stamps_ascend (version_of d) (rows_in kind.Summary d) summary.stamps rows is.stamps
+    in
     record {
       owner_fits = u32_in_small (subject_data kind.Summary d) old.owner was.owner;
       stamps = record {
         map = subst T (ap (λ (s : SummaryState). is_sorted key_cmp s.stamps) same
-            ∙ same_sorted migrated_stamp old.stamps) rise;
+            ∙ same_sorted migrated_stamp old.stamps) ascend;
         stamps = found_holds IsOldStamp old.stamps
             (stamps_fit (rows_in kind.Summary d) old.stamps (rows_small kind.Summary d small)
             was.stamps);

@@ -153,7 +153,7 @@ module _ (widening : Widening) (cells : Entries) (items : List Item) (default : 
         → IsBundleBy widening cells items default labels
         → IsBundleBy widening (part_of messages cells) items default (part_of messages labels)
     bundle_of_part messages labels bundle = record {
-      rising = filter-IsMap key_cmp (λ (x : Labelled). messages x.0.0) labels bundle.rising;
+      ascending = filter-IsMap key_cmp (λ (x : Labelled). messages x.0.0) labels bundle.ascending;
       answered =
           λ e. (answered_part messages labels bundle e, part_answered messages labels bundle e);
     }
@@ -230,7 +230,7 @@ pub one_bundle : (widening : Widening) (cells : Entries) (items : List Item)
     (default : Option (List ℕ)) (a b : List Labelled) → IsBundleBy widening cells items default a
     → IsBundleBy widening cells items default b → a ≡ b
 one_bundle widening cells items default a b first second =
-    same_maps key_cmp key_cmp_total key_cmp_exact a b first.rising second.rising
+    same_maps key_cmp key_cmp_total key_cmp_exact a b first.ascending second.ascending
     (λ k. elim (find key_cmp k a) as (λ o. find key_cmp k a ≡ o → o ≡ find key_cmp k b) [
       | Some label ↦ λ h. sym (has_too widening cells items default a b first second k label h)
       | None ↦ λ h. elim (find key_cmp k b) as (λ o. find key_cmp k b ≡ o → None ≡ o) [

@@ -20,8 +20,8 @@ use Rattle.json_docs.specs.declared.fault.DocCause.TheVariants.{Field}
 use Rattle.json_docs.specs.declared.fault.FieldFault.TheVariants.{Cell, Language, Priorities}
 use Rattle.site_docs.specs.SiteDocuments.{document_checks, subject_checks}
 use Rattle.row_docs.specs.Reading.{Reads}
-use Rattle.row_docs.specs.Rising.{cell_checks, cell_row, entry_in, last_key, own_cell_checks}
-use Rattle.row_docs.specs.Rising.{own_stamp_checks, stamp_checks, stamp_row, stamped_in}
+use Rattle.row_docs.specs.Ascending.{cell_checks, cell_row, entry_in, last_key, own_cell_checks}
+use Rattle.row_docs.specs.Ascending.{own_stamp_checks, stamp_checks, stamp_row, stamped_in}
 use Rattle.row_docs.specs.EntriesValues.{Row}
 use Rattle.row_docs.specs.declared.kind.Kind.{Kind}
 use Rattle.row_docs.specs.declared.kind.Kind.TheVariants.{Script}

@@ -23,7 +23,7 @@ use Rattle.json_docs.specs.Parts.{items_in, list_of}
 use Rattle.row_docs.specs.Headers.{rows_in, version_of}
 use Rattle.row_docs.specs.Kinds.{rows_of}
 use Rattle.site_docs.specs.Reading.{ReadsAsDelta, ReadsAsSite}
-use Rattle.row_docs.specs.Rising.{AreEntries, entry_in}
+use Rattle.row_docs.specs.Ascending.{AreEntries, entry_in}
 use Rattle.row_docs.specs.declared.kind.Kind.{Kind}
 use Rattle.row_docs.specs.declared.kind.Kind.TheVariants.{Delta, Site}
 use Rattle.json_docs.proofs.TextWholeLemmas.{length-tokens}

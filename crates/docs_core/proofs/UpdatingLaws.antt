@@ -95,7 +95,7 @@ nothing_made now name changes old new none makes =
 pub one_list : (old new : List Labelled) (cells : Entries) (x y : List Change)
     → AreChanges old new cells x → AreChanges old new cells y → x ≡ y
 one_list old new cells x y p q =
-    same_maps key_cmp key_cmp_total key_cmp_exact x y p.rising q.rising
+    same_maps key_cmp key_cmp_total key_cmp_exact x y p.ascending q.ascending
     (λ k. one_change (find key_cmp k old) (find key_cmp k new) (label_at k cells) (find key_cmp k x)
     (find key_cmp k y) (p.at k) (q.at k))
 
@@ -104,7 +104,7 @@ pub equal_nothing : (now : ℕ) (name : List ℕ) (labels : List Labelled) (cell
     → Updates now name labels labels cells updated → updated ≡ cells
 equal_nothing now name labels cells updated (changes, are, makes) =
     nothing_made now name changes cells updated
-    (no_change changes are.rising
+    (no_change changes are.ascending
     (λ q. quiet (find key_cmp q labels) (find key_cmp q labels) (label_at q cells)
     (find key_cmp q changes) (inl refl) (are.at q))) makes
 
@@ -114,7 +114,7 @@ pub keeps_cell : (now : ℕ) (name : List ℕ) (old new : List Labelled) (cells 
     → find key_cmp q old ≡ find key_cmp q new
     → find key_cmp q updated ≡ find key_cmp q cells
 keeps_cell now name old new cells updated q (changes, are, makes) same =
-    let left = made_at now name changes cells updated are.rising makes q in
+    let left = made_at now name changes cells updated are.ascending makes q in
     left.0 (quiet (find key_cmp q old) (find key_cmp q new) (label_at q cells)
     (find key_cmp q changes) (inl same) (are.at q))
 
@@ -124,7 +124,7 @@ new_or_left : (now : ℕ) (name : List ℕ) (old new : List Labelled) (cells upd
     → ((find key_cmp q old ≡ find key_cmp q new) × (find key_cmp q updated ≡ find key_cmp q cells))
     ⊎ (label_at q updated ≡ find key_cmp q new)
 new_or_left now name old new cells updated q (changes, are, makes) =
-    let left = made_at now name changes cells updated are.rising makes q in
+    let left = made_at now name changes cells updated are.ascending makes q in
     elim (are.at q) [
       | inl nothing ↦ elim nothing.0 [
         | inl same ↦ inl (same, left.0 nothing.1)
@@ -155,7 +155,7 @@ pub twice_once : (now later : ℕ) (name : List ℕ) (old new : List Labelled)
     → Updates later name old new once twice → twice ≡ once
 twice_once now later name old new cells once twice first (changes, are, makes) =
     nothing_made later name changes once twice
-    (no_change changes are.rising
+    (no_change changes are.ascending
     (λ q. quiet (find key_cmp q old) (find key_cmp q new) (label_at q once)
     (find key_cmp q changes)
     (elim (new_or_left now name old new cells once q first) [

@@ -49,7 +49,7 @@ borrowed_decides (Some x) (Some y) = label_decides (Some x.now) (Some y.now)
 pub head_there : (k : EntryKey) (texts : List (List ℕ)) (rest : List Labelled)
     → IsMap key_cmp ((k, texts) ∷ rest) → IsHead k (Some texts) ((k, texts) ∷ rest) rest
 head_there k texts rest m = record {
-  rises = second_part (below_all key_cmp k rest) (is_sorted key_cmp rest) m;
+  ascends = second_part (below_all key_cmp k rest) (is_sorted key_cmp rest) m;
   above = first_part (below_all key_cmp k rest) (is_sorted key_cmp rest) m;
   at = λ q. refl;
 }
@@ -58,7 +58,7 @@ head_there k texts rest m = record {
 pub head_absent : (k : EntryKey) (list : List Labelled) → IsMap key_cmp list
     → T (below_all key_cmp k list) → IsHead k None list list
 head_absent k list m above = record {
-  rises = m;
+  ascends = m;
   above = above;
   at =
       λ q. elim (eq_by_cmp key_cmp q k) as (λ t. eq_by_cmp key_cmp q k ≡ t
@@ -254,7 +254,7 @@ module _ (k : EntryKey) (was is : Texts) (old new old_rest new_rest : List Label
   pub skipped : IsChangeAt was is (label_at k cells) None → (changes : List Change)
       → AreChanges old_rest new_rest cells changes → AreChanges old new cells changes
   skipped done changes h = record {
-    rising = h.rising;
+    ascending = h.ascending;
     at =
         λ q. elim (eq_by_cmp key_cmp q k) as (λ t. eq_by_cmp key_cmp q k ≡ t
         → At old new cells changes q) [
@@ -273,9 +273,9 @@ module _ (k : EntryKey) (was is : Texts) (old new old_rest new_rest : List Label
   changed done stamp changes h =
       let mid = with_change (k, is) stamp cells in
       let cell : Cell = record { stamp = stamp; label = is } in record {
-        rising =
+        ascending =
             both_parts (below_all key_cmp k changes) (is_sorted key_cmp changes)
-            (changes_above mid changes h) h.rising;
+            (changes_above mid changes h) h.ascending;
         at =
             λ q. elim (eq_by_cmp key_cmp q k) as (λ t. eq_by_cmp key_cmp q k ≡ t
             → At old new cells ((k, is) ∷ changes) q) [
@@ -292,9 +292,9 @@ module _ (k : EntryKey) (was is : Texts) (old new old_rest new_rest : List Label
   pub changed_first : IsChangeAt was is (label_at k cells) (Some is) → (changes : List Change)
       → AreChanges old_rest new_rest cells changes → AreChanges old new cells ((k, is) ∷ changes)
   changed_first done changes h = record {
-    rising =
+    ascending =
         both_parts (below_all key_cmp k changes) (is_sorted key_cmp changes)
-        (changes_above cells changes h) h.rising;
+        (changes_above cells changes h) h.ascending;
     at =
         λ q. elim (eq_by_cmp key_cmp q k) as (λ t. eq_by_cmp key_cmp q k ≡ t
         → At old new cells ((k, is) ∷ changes) q) [
@@ -406,7 +406,7 @@ pub there_are_changes : (old new : List Labelled) (cells : Entries)
     → (changes : List Change) × AreChanges old new cells changes
 there_are_changes old new cells = (
   changes_at done both,
-  record { rising = changes_at-IsMap done both; at = λ q. at q (find key_cmp q both) refl },
+  record { ascending = changes_at-IsMap done both; at = λ q. at q (find key_cmp q both) refl },
 )
   where
     both : List Labelled
@@ -472,7 +472,7 @@ module _ (now : ℕ) (name : List ℕ) (old new : List Labelled) (first : Entrie
     subst (AreChanges old new first) (append-nil so.done)
         (so.rest [] (subst (λ (os : List Labelled). AreChanges os news cells []) (sym no_olds)
         (subst (λ (ns : List Labelled). AreChanges [] ns cells []) (sym no_news)
-        (record { rising = tt; at = λ key. inl (inl refl, refl) })))),
+        (record { ascending = tt; at = λ key. inl (inl refl, refl) })))),
     so.makes,
   )
 

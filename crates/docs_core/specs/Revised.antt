@@ -29,7 +29,7 @@ new_of r = option_map (λ l. l.now) r.new
 
 -- before the rest a list has this at the key, or nothing, and all keys of the rest are greater
 pub record IsHead (key : EntryKey) (texts : Texts) (list rest : List Labelled) : Type 0 where
-  pub rises : IsMap key_cmp rest
+  pub ascends : IsMap key_cmp rest
   pub above : T (below_all key_cmp key rest)
   pub at : (q : EntryKey)
       → find key_cmp q list ≡ cond (eq_by_cmp key_cmp q key) texts (find key_cmp q rest)

@@ -30,7 +30,7 @@ IsChangeAt old new held change =
 -- the changes from the old labels to the new ones, in ascending order of key
 pub record AreChanges (old new : List Labelled) (cells : Entries)
     (changes : List Change) : Type 0 where
-  pub rising : IsMap key_cmp changes
+  pub ascending : IsMap key_cmp changes
   pub at : (key : EntryKey)
       → IsChangeAt (find key_cmp key old) (find key_cmp key new) (label_at key cells)
       (find key_cmp key changes)

@@ -41,7 +41,7 @@ pub use call::time_limits::{
 };
 pub use call::updating::{update_document, update_labels};
 pub use json_docs::{
-    Doc, DocCause, DocFault, FieldFault, Input, MOST_BYTES, Output, Sink, Source, Spot, read_all,
+    Doc, DocCause, DocFault, FieldFault, Input, MAX_BYTES, Output, Sink, Source, Spot, read_all,
     write_out,
 };
 pub use lines::{Lines, two_documents};

@@ -28,7 +28,7 @@ pub use site_docs::laws::{
 };
 
 /// The answer of a reader on a text of version 1 is the migrated value of the data in the text,
-/// whose numbers fit and whose keys rise.
+/// whose numbers fit and whose keys ascend.
 pub fn a_text_reads_as_migrated()
     ensures site { (bytes : List ℕ) (d : Data) (site : SiteState) → AreJson bytes d
         → version_of d ≡ One → ReadsAsSite bytes site

@@ -26,7 +26,7 @@ use Rattle.cell_core.specs.Entry.{key_cmp, key_cmp_exact, key_cmp_total}
 use Rattle.catalogue.specs.Entries.{catalogue_laws}
 use Rattle.cata_core.specs.Site.{SiteState}
 use Rattle.catalogue.proofs.CatalogueApplyLemmas.{with_none}
-use Rattle.cata_core.proofs.SiteOwnEditsLemmas.{own_rises}
+use Rattle.cata_core.proofs.SiteOwnEditsLemmas.{own_ascends}
 use Rattle.map_docs.specs.Maps.{Labelled, labels_of}
 use Rattle.map_docs.specs.declared.maps.KeyedLabel.{KeyedLabel}
 use Rattle.docs_core.specs.ImportingLabels.{Imports, puts_of}
@@ -203,17 +203,17 @@ gathered old new came m below part at =
           ∙ sym (find-joined_maps key_cmp key_cmp_total joined_cells old came m part.map q)),
     )
 
--- changes that are made one after another rise
-makes_rise : (now : ℕ) (name : List ℕ) (changes : List MadeChange) (old new : Entries)
+-- changes that are made one after another ascend
+makes_ascend : (now : ℕ) (name : List ℕ) (changes : List MadeChange) (old new : Entries)
     → IsMap key_cmp old → Makes now name changes old new → IsBelowCells old new
-makes_rise now name [] old new m is =
+makes_ascend now name [] old new m is =
     subst (IsBelowCells old) (sym is) (catalogue_laws.agree_refl old, catalogue_laws.idem old)
-makes_rise now name (e ∷ es) old new m (stamp, next, rest) =
+makes_ascend now name (e ∷ es) old new m (stamp, next, rest) =
     let cell : Cell = record { stamp = stamp; label = e.1 } in
     let mid = with_change e stamp old in
     let is_mid : IsMap key_cmp mid = is_sorted-put key_cmp key_cmp_total e.0 cell old m in
-    above_trans old mid new is_mid (own_rises old e.0 cell m next.new.above)
-    (makes_rise now name es mid new is_mid rest)
+    above_trans old mid new is_mid (own_ascends old e.0 cell m next.new.above)
+    (makes_ascend now name es mid new is_mid rest)
 
 -- The site, joined with the cell at the key of a change, is what the change made of it.
 pub change_brought : (now : ℕ) (change : Change) (old new : SiteState) (came : Entries)
@@ -224,9 +224,9 @@ change_brought now change old new came m (stamp, next, is) part more =
     let key : EntryKey = (change.id, change.lang) in
     let cell : Cell = record { stamp = stamp; label = change.label } in
     let cells = ap (λ (s : SiteState). s.cells) is in
-    let rises = subst (IsBelowCells old.cells) (sym cells)
-    (own_rises old.cells key cell m next.new.above) in
-    let found = gathered old.cells new.cells came m rises part
+    let ascends = subst (IsBelowCells old.cells) (sym cells)
+    (own_ascends old.cells key cell m next.new.above) in
+    let found = gathered old.cells new.cells came m ascends part
     (λ q. elim (eq_by_cmp key_cmp q key) as (λ t. eq_by_cmp key_cmp q key ≡ t
     → IsKnown old.cells new.cells came q) [
       | true ↦ λ t. inl (more q (inr (one_key q key t)))
@@ -244,8 +244,8 @@ pub import_brought : (now : ℕ) (labels : List Labelled) (old new : SiteState) 
     → KnowsMore (λ q. find key_cmp q labels ≢ None) old.cells new.cells [] came
     → IsJoined came old new
 import_brought now labels old new came is_map m name imports part knows =
-    let rises = makes_rise now old.name (puts_of labels) old.cells new.cells m imports in
-    let found = gathered old.cells new.cells came m rises part
+    let ascends = makes_ascend now old.name (puts_of labels) old.cells new.cells m imports in
+    let found = gathered old.cells new.cells came m ascends part
     (λ q. elim (find key_cmp q labels) as (λ o. find key_cmp q labels ≡ o
     → IsKnown old.cells new.cells came q) [
       | None ↦ λ none.
@@ -263,8 +263,8 @@ pub update_brought : (now : ℕ) (before after : List Labelled) (old new : SiteS
     → KnowsMore (λ q. find key_cmp q after ≢ None) old.cells new.cells some came
     → IsJoined came old new
 update_brought now before after old new some came m name updates part first knows =
-    let rises = makes_rise now old.name updates.0 old.cells new.cells m updates.2 in
-    let found = gathered old.cells new.cells came m rises part
+    let ascends = makes_ascend now old.name updates.0 old.cells new.cells m updates.2 in
+    let found = gathered old.cells new.cells came m ascends part
     (λ q. elim (find key_cmp q before) as (λ o. find key_cmp q before ≡ o
     → IsKnown old.cells new.cells came q) [
       | Some label ↦ λ has.

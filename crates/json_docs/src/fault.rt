@@ -1,7 +1,7 @@
 //! Why a document is refused.
 ghost use Rattle.std.specs.Prelude.{◌≡◌};
 
-use crate::stream::sources::MOST_BYTES;
+use crate::stream::sources::MAX_BYTES;
 use cata_core::{CataFault, PlayFault};
 use cell_core::CellFault;
 use lang_core::LangFault;
@@ -73,8 +73,8 @@ pub enum DocCause {
     /// A language of a message equals an earlier one without case.
     #[error("language repeated")]
     RepeatedTag { row: usize },
-    /// The source gave more than [`MOST_BYTES`] bytes.
-    #[error("document is over {most} bytes", most = MOST_BYTES)]
+    /// The source gave more than [`MAX_BYTES`] bytes.
+    #[error("document is over {most} bytes", most = MAX_BYTES)]
     TooLarge,
     /// A read gave an error.
     #[error("read fault")]

@@ -24,6 +24,6 @@ pub use fault::{DocCause, DocFault, FieldFault, Spot};
 pub use json_text::object::{begins_object, next_name};
 pub use json_text::parts::{items_of, text_of, u32_of, u64_of};
 pub use json_text::scanning::{is_scalar, next_value};
-pub use json_text::text::{MOST_DEPTH, check_numbers, check_value, text_in};
+pub use json_text::text::{MAX_DEPTH, check_numbers, check_value, text_in};
 pub use stream::sinks::{Output, Sink, write_out};
-pub use stream::sources::{Input, MOST_BYTES, Source, read_all};
+pub use stream::sources::{Input, MAX_BYTES, Source, read_all};

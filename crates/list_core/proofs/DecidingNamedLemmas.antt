@@ -39,14 +39,14 @@ stands_up (j ∷ items) (suc k) i s n = elim (cases_Bool (is_named j)) [
   | inr e ↦ rw e (stands_up items k i s n)
 ]
 
-rank_rises : (items : List Item) (k p : ℕ) → k ≤ p → rank items k ≤ rank items p
+rank_ascends : (items : List Item) (k p : ℕ) → k ≤ p → rank items k ≤ rank items p
 unfolding rank
-rank_rises [] k p h = omega arith
-rank_rises (j ∷ items) zero p h = omega arith
-rank_rises (j ∷ items) (suc k) zero h = absurd (omega arith)
-rank_rises (j ∷ items) (suc k) (suc p) h = elim (cases_Bool (is_named j)) [
-  | inl e ↦ rw e (let r = rank_rises items k p (omega arith) in omega arith)
-  | inr e ↦ rw e (rank_rises items k p (omega arith))
+rank_ascends [] k p h = omega arith
+rank_ascends (j ∷ items) zero p h = omega arith
+rank_ascends (j ∷ items) (suc k) zero h = absurd (omega arith)
+rank_ascends (j ∷ items) (suc k) (suc p) h = elim (cases_Bool (is_named j)) [
+  | inl e ↦ rw e (let r = rank_ascends items k p (omega arith) in omega arith)
+  | inr e ↦ rw e (rank_ascends items k p (omega arith))
 ]
 
 rank_below : (items : List Item) (k p : ℕ) (i : Item) → slice_get items k ≡ Some i
@@ -108,7 +108,7 @@ named_alone items tag p d = (
     first = λ n other low s f. (let t = taken items n other s in elim (cases_lt t.place p) [
       | inl less ↦ d.first t.place other less t.stands (named_no_any other t.named, f)
       | inr more ↦
-          absurd (let r = rank_rises items p t.place more in let e = t.rank_is in omega arith)
+          absurd (let r = rank_ascends items p t.place more in let e = t.rank_is in omega arith)
     ]);
   },
   refl,

@@ -15,9 +15,9 @@ use Rattle.lang_core.proofs.SubtagClassSums.{no_test as number_differs}
 use Rattle.list_core.proofs.IndexLemmas.{NoneBefore, none_here}
 use Rattle.list_core.specs.Item.{Item}
 use Rattle.list_core.specs.Fingerprint.{fingerprint_of}
-use Rattle.list_core.specs.Chains.{IsNextIn}
-use Rattle.list_core.specs.HashedRanges.{AreBuckets, IsCrowded, bucket_numbers, bucket_of}
-use Rattle.list_core.specs.declared.chains.Chains.{Chains}
+use Rattle.list_core.specs.Buckets.{IsNextIn}
+use Rattle.list_core.specs.HashedRanges.{AreTextBuckets, IsCrowded, bucket_numbers, bucket_of}
+use Rattle.list_core.specs.declared.buckets.Buckets.{Buckets}
 
 -- ---- the numbers of the buckets
 
@@ -85,8 +85,8 @@ sought_on items text from place none n = record {
 }
 
 -- Before the first place of its bucket no item has the text.
-pub sought_first : (items : List Item) (buckets : Chains) (text : List ℕ) (bucket place : ℕ)
-    → AreBuckets items buckets → bucket ≡ bucket_of (length items) text → bucket < length items
+pub sought_first : (items : List Item) (buckets : Buckets) (text : List ℕ) (bucket place : ℕ)
+    → AreTextBuckets items buckets → bucket ≡ bucket_of (length items) text → bucket < length items
     → place ≡ get_or buckets.first.items bucket 0 → IsSoughtTo items text place
 sought_first items buckets text bucket place a b low e =
     sought_on items text 0 place (λ k other lt s same. omega arith)
@@ -99,8 +99,9 @@ sought_first items buckets text bucket place a b low e =
 
 -- Where the item at a place of the text's bucket has another text, the search goes on at the next
 -- place of the bucket.
-pub sought_next : (items : List Item) (buckets : Chains) (text : List ℕ) (place next : ℕ) (i : Item)
-    → AreBuckets items buckets → place < length items → i ≡ get_or items place i
+pub sought_next : (items : List Item) (buckets : Buckets) (text : List ℕ) (place next : ℕ) (i :
+    Item)
+    → AreTextBuckets items buckets → place < length items → i ≡ get_or items place i
     → bytes_eq i.range text ≡ false → next ≡ get_or buckets.next.items place 0
     → IsSoughtTo items text place → IsSoughtTo items text next
 sought_next items buckets text place next i a low is other e h =

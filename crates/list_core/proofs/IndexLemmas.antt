@@ -23,7 +23,7 @@ use Rattle.list_core.proofs.Basics.{false_true, same_default, same_at, stands_at
 use Rattle.list_core.proofs.IndexUnique.{text_tied}
 use Rattle.list_core.specs.Item.{Item}
 use Rattle.list_core.specs.Index.{text_at, place_cmp, range_key_cmp, IsRangeIndex, IsRangeKeyOf}
-use Rattle.list_core.specs.Index.{AreRangeKeys, IsSeat, IsFirstWith, MatchFirst}
+use Rattle.list_core.specs.Index.{AreRangeKeys, IsPosition, IsFirstWith, MatchFirst}
 use Rattle.list_core.specs.declared.index.RangeKey.{RangeKey}
 
 -- ---- texts in order
@@ -66,7 +66,7 @@ pub below_before : (items : List Item) (places text : List ℕ) (i j : ℕ) → 
 below_before items places text i j index le low h =
     below_on (text_at items (get_or places i 0)) (text_at items (get_or places j 0)) text _
     (nat_cmp (get_or places j 0) (get_or places i 0)) refl
-    (far_apart items places i j index.rising le low) h
+    (far_apart items places i j index.ascending le low) h
 
 -- A range after one that is not below a text is not below it either.
 pub not_below_after : (items : List Item) (places text : List ℕ) (i j : ℕ)
@@ -99,9 +99,10 @@ listed items places k i index s =
     record { at = c.0; within = c.1; is = same_default places c.0 0 k c.1 ∙ c.2 }
 
 -- Where all ranges are below a text, no range has it.
-pub none_found : (items : List Item) (places text : List ℕ) (seat : ℕ) → IsRangeIndex items places
-    → IsSeat items places text seat → length places ≤ seat → MatchFirst items text None
-none_found items places text seat index at past = λ k other s e.
+pub none_found : (items : List Item) (places text : List ℕ) (position : ℕ) → IsRangeIndex items
+    places
+    → IsPosition items places text position → length places ≤ position → MatchFirst items text None
+none_found items places text position index at past = λ k other s e.
     let l = listed items places k other index s in
     let below = at.below l.at (let w = l.within in omega arith) in
     let t : text_at items (get_or places l.at 0) ≡ text =
@@ -120,37 +121,39 @@ less_second : (a b : Ordering) → a ≡ Equal → b ≡ Less → is_lt (orderin
 less_second a b e f = ap (λ (o : Ordering). is_lt (ordering_then o b)) e ∙ ap is_lt f
 
 -- Where the first range that is not below a text is another, no range has the text.
-pub other_found : (items : List Item) (places text : List ℕ) (seat : ℕ) → IsRangeIndex items places
-    → IsSeat items places text seat → seat < length places
-    → (text_at items (get_or places seat 0) ≡ text → ⊥) → MatchFirst items text None
-other_found items places text seat index at low differs = λ k other s e.
+pub other_found : (items : List Item) (places text : List ℕ) (position : ℕ) → IsRangeIndex items
+    places
+    → IsPosition items places text position → position < length places
+    → (text_at items (get_or places position 0) ≡ text → ⊥) → MatchFirst items text None
+other_found items places text position index at low differs = λ k other s e.
     let l = listed items places k other index s in
     let t : text_at items (get_or places l.at 0) ≡ text =
     ap (text_at items) l.is ∙ (text_stands items k other s ∙ e) in
-    elim (cases_order l.at seat) [
+    elim (cases_order l.at position) [
       | inl same ↦ differs (ap (λ (n : ℕ). text_at items (get_or places n 0)) (sym same) ∙ t)
       | inr r ↦ elim r [
         | inl less ↦
             not_below_itself text
             (subst (λ (x : List ℕ). is_lt (text_cmp x text) ≡ true) t (at.below l.at less))
         | inr more ↦
-            (let far = far_apart items places seat l.at index.rising (omega arith) l.within in
-            let above = at.above seat (omega arith) low in
-            let greater : text_cmp (text_at items (get_or places seat 0)) text ≡ Greater =
-            greater_is (text_cmp (text_at items (get_or places seat 0)) text) above
-            (λ q. differs (text_tied (text_at items (get_or places seat 0)) text q)) in
-            let less : text_cmp text (text_at items (get_or places seat 0)) ≡ Less =
-            nat_list_cmp_total.antisymm text (text_at items (get_or places seat 0))
+            (let far = far_apart items places position l.at index.ascending (omega arith) l.within
+            in
+            let above = at.above position (omega arith) low in
+            let greater : text_cmp (text_at items (get_or places position 0)) text ≡ Greater =
+            greater_is (text_cmp (text_at items (get_or places position 0)) text) above
+            (λ q. differs (text_tied (text_at items (get_or places position 0)) text q)) in
+            let less : text_cmp text (text_at items (get_or places position 0)) ≡ Less =
+            nat_list_cmp_total.antisymm text (text_at items (get_or places position 0))
             ∙ ap ordering_reverse greater in
             let first : text_cmp (text_at items (get_or places l.at 0))
-            (text_at items (get_or places seat 0)) ≡ Less =
-            ap (λ (x : List ℕ). text_cmp x (text_at items (get_or places seat 0))) t ∙ less in
+            (text_at items (get_or places position 0)) ≡ Less =
+            ap (λ (x : List ℕ). text_cmp x (text_at items (get_or places position 0))) t ∙ less in
             false_true
             (sym far
             ∙ less_first
             (text_cmp (text_at items (get_or places l.at 0))
-            (text_at items (get_or places seat 0)))
-            (nat_cmp (get_or places l.at 0) (get_or places seat 0)) first))
+            (text_at items (get_or places position 0)))
+            (nat_cmp (get_or places l.at 0) (get_or places position 0)) first))
       ]
     ]
 
@@ -158,55 +161,57 @@ other_found items places text seat index at low differs = λ k other s e.
 pub nat_less : (m n : ℕ) → m < n → nat_cmp m n ≡ Less
 nat_less m n h = rw (lt-ltb m n h) refl
 
-no_earlier : (items : List Item) (places text : List ℕ) (seat k : ℕ) (other : Item)
-    → IsRangeIndex items places → IsSeat items places text seat → seat < length places
-    → text_at items (get_or places seat 0) ≡ text → k < get_or places seat 0
+no_earlier : (items : List Item) (places text : List ℕ) (position k : ℕ) (other : Item)
+    → IsRangeIndex items places → IsPosition items places text position → position < length places
+    → text_at items (get_or places position 0) ≡ text → k < get_or places position 0
     → slice_get items k ≡ Some other → other.range ≡ text → ⊥
-no_earlier items places text seat k other index at low same before s e =
+no_earlier items places text position k other index at low same before s e =
     let l = listed items places k other index s in
     let t : text_at items (get_or places l.at 0) ≡ text =
     ap (text_at items) l.is ∙ (text_stands items k other s ∙ e) in
-    elim (cases_order l.at seat) [
+    elim (cases_order l.at position) [
       | inl q ↦
-          (let p : get_or places l.at 0 ≡ get_or places seat 0 =
+          (let p : get_or places l.at 0 ≡ get_or places position 0 =
           ap (λ (n : ℕ). get_or places n 0) q in let i = l.is in absurd (omega arith))
       | inr r ↦ elim r [
         | inl less ↦
             not_below_itself text
             (subst (λ (x : List ℕ). is_lt (text_cmp x text) ≡ true) t (at.below l.at less))
         | inr more ↦
-            (let far = far_apart items places seat l.at index.rising (omega arith) l.within in
+            (let far = far_apart items places position l.at index.ascending (omega arith) l.within
+            in
             let tie : text_cmp (text_at items (get_or places l.at 0))
-            (text_at items (get_or places seat 0)) ≡ Equal =
+            (text_at items (get_or places position 0)) ≡ Equal =
             ap (λ (x : List ℕ). text_cmp (text_at items (get_or places l.at 0)) x)
             (same ∙ sym t)
             ∙ tied_itself nat_list_cmp_total (text_at items (get_or places l.at 0)) in
-            let first : nat_cmp (get_or places l.at 0) (get_or places seat 0) ≡ Less =
-            nat_less (get_or places l.at 0) (get_or places seat 0)
+            let first : nat_cmp (get_or places l.at 0) (get_or places position 0) ≡ Less =
+            nat_less (get_or places l.at 0) (get_or places position 0)
             (let i = l.is in omega arith) in
             false_true
             (sym far
             ∙ less_second
             (text_cmp (text_at items (get_or places l.at 0))
-            (text_at items (get_or places seat 0)))
-            (nat_cmp (get_or places l.at 0) (get_or places seat 0)) tie first))
+            (text_at items (get_or places position 0)))
+            (nat_cmp (get_or places l.at 0) (get_or places position 0)) tie first))
       ]
     ]
 
 -- Where the first range that is not below a text is the text, its item is the first with it.
-pub one_found : (items : List Item) (places text : List ℕ) (seat : ℕ) (i : Item)
-    → IsRangeIndex items places → IsSeat items places text seat → seat < length places
-    → slice_get items (get_or places seat 0) ≡ Some i → i.range ≡ text
-    → MatchFirst items text (Some (get_or places seat 0))
-one_found items places text seat i index at low s same =
-    let t : text_at items (get_or places seat 0) ≡ text =
-    text_stands items (get_or places seat 0) i s ∙ same in
+pub one_found : (items : List Item) (places text : List ℕ) (position : ℕ) (i : Item)
+    → IsRangeIndex items places → IsPosition items places text position → position < length places
+    → slice_get items (get_or places position 0) ≡ Some i → i.range ≡ text
+    → MatchFirst items text (Some (get_or places position 0))
+one_found items places text position i index at low s same =
+    let t : text_at items (get_or places position 0) ≡ text =
+    text_stands items (get_or places position 0) i s ∙ same in
     record {
       item = i;
       stands = s;
       same = same;
       first =
-          λ k other before o e. no_earlier items places text seat k other index at low t before o e;
+          λ k other before o e. no_earlier items places text position k other index at low t before
+          o e;
     }
 
 -- ---- the index is made
@@ -236,10 +241,10 @@ all_listed : (items : List Item) (keys : List RangeKey) (k : ℕ)
 all_listed items [] k a low = absurd (let m = a.as_many in omega arith)
 all_listed items (e ∷ keys) k a low = range_key_listed items (e ∷ keys) e k a low
 
-places_rise : (items : List Item) (keys : List RangeKey) → All (IsRangeKeyOf items) keys
+places_ascend : (items : List Item) (keys : List RangeKey) → All (IsRangeKeyOf items) keys
     → IsSorted range_key_cmp keys → IsSorted (place_cmp items) (map (λ x. x.place) keys)
-places_rise items [] all up = λ k d low lt. absurd (omega arith)
-places_rise items (e ∷ keys) all up = λ k d low lt.
+places_ascend items [] all up = λ k d low lt. absurd (omega arith)
+places_ascend items (e ∷ keys) all up = λ k d low lt.
     let size : length (map (λ (x : RangeKey). x.place) (e ∷ keys)) ≡ length (e ∷ keys) =
     simp length-map in
     let one = get_or-map (λ (x : RangeKey). x.place) (e ∷ keys) k e d (omega arith) in
@@ -267,7 +272,7 @@ index_made items keys sorted places a same up e =
           λ k low.
           Contains-permutation (map (λ x. x.place) keys) (map (λ x. x.place) sorted) k
           (IsPermutation-map (λ x. x.place) keys sorted same) (all_listed items keys k a low);
-      rising = places_rise items sorted all up;
+      ascending = places_ascend items sorted all up;
     })
 
 -- ---- how the first is found without an index
@@ -313,22 +318,22 @@ none_of_all items text place end none =
     λ k other s same. none k other (let low = slice_get_within items k other s in omega arith) s
     same
 
--- ---- how the seat is found
+-- ---- how the position is found
 
--- The seat is from low up to high.
-pub record IsSeatWithin (items : List Item) (places text : List ℕ) (low high : ℕ) : Type 0 where
+-- The position is from low up to high.
+pub record IsPositionWithin (items : List Item) (places text : List ℕ) (low high : ℕ) : Type 0 where
   pub ordered : low ≤ high
   pub within : high ≤ length places
   pub below : (k : ℕ) → k < low → is_lt (text_cmp (text_at items (get_or places k 0)) text) ≡ true
   pub above : (k : ℕ) → high ≤ k → k < length places
       → is_lt (text_cmp (text_at items (get_or places k 0)) text) ≡ false
 
--- Where the range in the middle is below the text, the seat is after the middle.
-pub seat_above : (items : List Item) (places text : List ℕ) (low high middle : ℕ)
-    → IsRangeIndex items places → IsSeatWithin items places text low high → middle < high
+-- Where the range in the middle is below the text, the position is after the middle.
+pub position_above : (items : List Item) (places text : List ℕ) (low high middle : ℕ)
+    → IsRangeIndex items places → IsPositionWithin items places text low high → middle < high
     → is_lt (text_cmp (text_at items (get_or places middle 0)) text) ≡ true
-    → IsSeatWithin items places text (middle + 1) high
-seat_above items places text low high middle index s m h = record {
+    → IsPositionWithin items places text (middle + 1) high
+position_above items places text low high middle index s m h = record {
   ordered = omega arith;
   within = s.within;
   below =
@@ -338,12 +343,12 @@ seat_above items places text low high middle index s m h = record {
   above = s.above;
 }
 
--- Where the range in the middle is not below the text, the seat is at the middle or before it.
-pub seat_below : (items : List Item) (places text : List ℕ) (low high middle : ℕ)
-    → IsRangeIndex items places → IsSeatWithin items places text low high → low ≤ middle
+-- Where the range in the middle is not below the text, the position is at the middle or before it.
+pub position_below : (items : List Item) (places text : List ℕ) (low high middle : ℕ)
+    → IsRangeIndex items places → IsPositionWithin items places text low high → low ≤ middle
     → middle < high → is_lt (text_cmp (text_at items (get_or places middle 0)) text) ≡ false
-    → IsSeatWithin items places text low middle
-seat_below items places text low high middle index s l m h = record {
+    → IsPositionWithin items places text low middle
+position_below items places text low high middle index s l m h = record {
   ordered = l;
   within = (let w = s.within in omega arith);
   below = s.below;

@@ -1,5 +1,5 @@
 pub mod Basics
-pub mod ChainsLemmas
+pub mod BucketsLemmas
 pub mod DecidingLemmas
 pub mod DecidingMatchedLemmas
 pub mod DecidingMostSpecificLemmas

@@ -29,7 +29,7 @@ pub one_keys : (items : List Item) (a b : List OrderKey) → AreOrderKeys items 
     → AreOrderKeys items b → a ≡ b
 one_keys items a b o p =
     one_order order_key_cmp order_key_total order_key_tied (order_keys_from items 0) a b o.each_once
-    o.rising p.each_once p.rising
+    o.ascending p.each_once p.ascending
 
 -- A priority list has one order of lookup.
 pub one_order_of : (items a b : List Item) → IsOrder items a → IsOrder items b → a ≡ b

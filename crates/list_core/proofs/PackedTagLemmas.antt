@@ -33,11 +33,11 @@ abbrev pub bound : ℕ → ℕ
 bound zero = 1
 bound (suc n) = 256 * bound n
 
-bound_rises : (m n : ℕ) → m ≤ n → bound m ≤ bound n
-bound_rises zero zero h = omega arith
-bound_rises zero (suc n) h = let rest = bound_rises zero n (omega arith) in omega arith
-bound_rises (suc m) zero h = absurd (omega arith)
-bound_rises (suc m) (suc n) h = let rest = bound_rises m n (omega arith) in omega arith
+bound_ascends : (m n : ℕ) → m ≤ n → bound m ≤ bound n
+bound_ascends zero zero h = omega arith
+bound_ascends zero (suc n) h = let rest = bound_ascends zero n (omega arith) in omega arith
+bound_ascends (suc m) zero h = absurd (omega arith)
+bound_ascends (suc m) (suc n) h = let rest = bound_ascends m n (omega arith) in omega arith
 
 small_byte : (b : ℕ) → is_nonzero_ascii b ≡ true → (0 < b) × (b < 128)
 small_byte b h = (grind (arith, nat_tests), grind (arith, nat_tests))
@@ -142,7 +142,7 @@ room_for_byte s place n h low high e =
     let size : length (drop place s) ≡ length s - place = length-drop place s in
     let below = below_bound (drop place s) (nonzero_drop place s parts.1) in
     let most : bound (length (drop place s)) ≤ bound 7 =
-    bound_rises (length (drop place s)) 7 (omega (arith, parts.0, size)) in
+    bound_ascends (length (drop place s)) 7 (omega (arith, parts.0, size)) in
     omega arith
 
 all_of : (f g : ℕ → Bool) → ((b : ℕ) → f b ≡ true → g b ≡ true) → (s : List ℕ)

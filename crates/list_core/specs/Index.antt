@@ -6,8 +6,8 @@ use Rattle.std.specs.declared.cmp.Ordering.{Ordering}
 use Rattle.std.specs.Ordering.{nat_cmp, on, then_cmp, is_lt}
 use Rattle.std.specs.Cmp.Lexicographic.{slice_cmp}
 use Rattle.list_core.specs.Item.{Item}
-use Rattle.list_core.specs.Chains.{AreChains}
-use Rattle.list_core.specs.HashedRanges.{AreBuckets}
+use Rattle.list_core.specs.Buckets.{AreSubtagBuckets}
+use Rattle.list_core.specs.HashedRanges.{AreTextBuckets}
 use Rattle.list_core.specs.declared.index.RangeKey.{RangeKey}
 use Rattle.list_core.specs.declared.index.Index.{Index}
 use Rattle.list_core.specs.declared.index.Index.TheVariants as index
@@ -24,7 +24,7 @@ place_cmp items = then_cmp (on (text_at items) (slice_cmp nat_cmp)) nat_cmp
 pub record IsRangeIndex (items : List Item) (places : List ℕ) : Type 0 where
   pub within : All (λ p. p < length items) places
   pub each : (k : ℕ) → k < length items → Contains places k
-  pub rising : IsSorted (place_cmp items) places
+  pub ascending : IsSorted (place_cmp items) places
 
 -- the key of the item at a place
 pub record IsRangeKeyOf (items : List Item) (e : RangeKey) : Type 0 where
@@ -42,12 +42,13 @@ abbrev pub range_key_cmp : RangeKey → RangeKey → Ordering
 range_key_cmp = then_cmp (on (λ e. e.text) (slice_cmp nat_cmp)) (on (λ e. e.place) nat_cmp)
 
 -- the places before this one are those of the ranges below the text
-pub record IsSeat (items : List Item) (places : List ℕ) (text : List ℕ) (seat : ℕ) : Type 0 where
-  pub within : seat ≤ length places
-  pub below : (k : ℕ) → k < seat
-      → is_lt (slice_cmp nat_cmp (text_at items (slice_index places k)) text) ≡ true
-  pub above : (k : ℕ) → seat ≤ k → k < length places
-      → is_lt (slice_cmp nat_cmp (text_at items (slice_index places k)) text) ≡ false
+pub record IsPosition (items : List Item) (places : List ℕ) (text : List ℕ) (position : ℕ) : Type 0
+  where
+    pub within : position ≤ length places
+    pub below : (k : ℕ) → k < position
+        → is_lt (slice_cmp nat_cmp (text_at items (slice_index places k)) text) ≡ true
+    pub above : (k : ℕ) → position ≤ k → k < length places
+        → is_lt (slice_cmp nat_cmp (text_at items (slice_index places k)) text) ≡ false
 
 -- the place of the first item whose range has this text
 pub record IsFirstWith (items : List Item) (text : List ℕ) (place : ℕ) : Type 0 where
@@ -74,6 +75,6 @@ IsFirstAlike items place found = of_item (slice_get items place) where
 
 -- what the index of a long list holds of its items
 abbrev pub IsIndex : List Item → Index → Type 0
-IsIndex items (index.Buckets buckets) = AreBuckets items buckets
+IsIndex items (index.Texts buckets) = AreTextBuckets items buckets
 IsIndex items (index.Ranges places) = IsRangeIndex items places.items
-IsIndex items (index.Chains chains) = AreChains items chains
+IsIndex items (index.Subtags buckets) = AreSubtagBuckets items buckets

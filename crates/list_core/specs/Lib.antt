@@ -6,7 +6,7 @@ pub mod PackedTag
 pub mod Weight
 pub mod Field
 pub mod Deciding
-pub mod Chains
+pub mod Buckets
 pub mod HashedRanges
 pub mod Index
 pub mod LookupOrder

@@ -27,7 +27,7 @@ order_keys_from (i ∷ items) place = if is_tried i then
 -- each key once, in order
 pub record AreOrderKeys (items : List Item) (keys : List OrderKey) : Type 0 where
   pub each_once : IsPermutation (order_keys_from items 0) keys
-  pub rising : IsSorted order_key_cmp keys
+  pub ascending : IsSorted order_key_cmp keys
 
 -- The items that are tried, by weight downwards, then by place (project rule).
 pub record IsOrder (items ordered : List Item) : Type 0 where

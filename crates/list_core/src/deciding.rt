@@ -4,10 +4,10 @@ ghost use Rattle.std.specs.Prelude.{ℕ, ◌≡◌, ◌<◌, List};
 ghost use Rattle.lang_core.specs.Text.{pieces};
 ghost use Rattle.lang_core.specs.Matching.{Extended};
 ghost use Rattle.list_core.specs.Deciding.{IsBest, Matches, better_of, is_above, is_worse};
-ghost use Rattle.list_core.specs.Chains.{AreChains, AreLinked, StandsIn};
-ghost use Rattle.list_core.specs.declared.chains.TheConstants.{CHAIN_COUNT};
+ghost use Rattle.list_core.specs.Buckets.{AreSubtagBuckets, AreLinked, IsIn};
+ghost use Rattle.list_core.specs.declared.buckets.TheConstants.{BUCKET_COUNT};
 
-use crate::chains::{Chains, LAST_CHAIN, chains_of_tag};
+use crate::buckets::{Buckets, LAST_BUCKET, buckets_of_tag};
 use crate::item::{Item, first_byte};
 use crate::packed_tag::PackedTag;
 use crate::scheme::Scheme;
@@ -46,17 +46,17 @@ pub(crate) fn best_of(items: &[Item], scheme: Scheme, tag: &Tag) -> Option<MostS
     best
 }
 
-/// The best of the items that match under the extended match. It searches the last chain, and each
-/// chain of the tag's subtags once.
-pub(crate) fn best_extended(items: &[Item], chains: &Chains, tag: &Tag) -> Option<MostSpecific>
-    requires { AreChains items.now chains.now }
+/// The best of the items that match under the extended match. It searches the last bucket, and each
+/// bucket of the tag's subtags once.
+pub(crate) fn best_extended(items: &[Item], buckets: &Buckets, tag: &Tag) -> Option<MostSpecific>
+    requires { AreSubtagBuckets items.now buckets.now }
     ensures { IsBest (λ _ i. Extended (pieces i.range) (pieces tag.now)) items.now result }
 {
     let packed = PackedTag::new(tag);
-    let mut best = best_in(items, chains, LAST_CHAIN, &packed);
-    let asked = chains_of_tag(tag);
-    for chain in asked.as_slice() {
-        best = better_of(best, best_in(items, chains, usize::from(*chain), &packed));
+    let mut best = best_in(items, buckets, LAST_BUCKET, &packed);
+    let asked = buckets_of_tag(tag);
+    for bucket in asked.as_slice() {
+        best = better_of(best, best_in(items, buckets, usize::from(*bucket), &packed));
     }
     best
 }
@@ -81,23 +81,28 @@ pub(crate) fn better_of(
     }
 }
 
-/// The best of the items of one chain that match under the extended match.
-fn best_in(items: &[Item], chains: &Chains, chain: usize, tag: &PackedTag) -> Option<MostSpecific>
-    requires linked { AreChains items.now chains.now }
-    requires within { chain < CHAIN_COUNT }
-    ensures { (numbers : List ℕ) → AreLinked items.now numbers chains.now
-        → IsBest (λ k i. StandsIn numbers chain k × Extended (pieces i.range) (pieces tag.now))
+/// The best of the items of one bucket that match under the extended match.
+fn best_in(
+    items: &[Item],
+    buckets: &Buckets,
+    bucket: usize,
+    tag: &PackedTag,
+) -> Option<MostSpecific>
+    requires linked { AreSubtagBuckets items.now buckets.now }
+    requires within { bucket < BUCKET_COUNT }
+    ensures { (numbers : List ℕ) → AreLinked items.now numbers buckets.now
+        → IsBest (λ k i. IsIn numbers bucket k × Extended (pieces i.range) (pieces tag.now))
         items.now result }
 {
     let mut best = None;
-    let mut place = chains.first[chain];
+    let mut place = buckets.first[bucket];
     while place < items.len() {
         let item = &items[place];
         let specificity = item.specificity();
         if is_above(best, specificity) && tag.is_matched_by(item.range()) {
             best = Some(MostSpecific { place, specificity });
         }
-        place = chains.next[place];
+        place = buckets.next[place];
     }
     best
 }

@@ -2,10 +2,11 @@
 //! few of them.
 ghost use Rattle.std.specs.Prelude.{ℕ, ◌≡◌, ◌<◌, ◌↔◌, length, slice_index, IfOk, IfSome, IsTrue};
 ghost use Rattle.list_core.specs.Index.{MatchFirst};
-ghost use Rattle.list_core.specs.HashedRanges.{AreBuckets, IsCrowded, bucket_numbers, bucket_of};
+ghost use Rattle.list_core.specs.HashedRanges.{AreTextBuckets, IsCrowded, bucket_numbers};
+ghost use Rattle.list_core.specs.HashedRanges.{bucket_of};
 ghost use Rattle.list_core.specs.declared.hashed_ranges.TheConstants.{MAX_BUCKET_LEN};
 
-use crate::chains::{Chains, link_chains};
+use crate::buckets::{Buckets, link_buckets};
 use crate::fingerprint::fingerprint_of;
 use crate::item::Item;
 use std::alloc::{AllocError, Global};
@@ -15,20 +16,20 @@ const MAX_BUCKET_LEN: u16 = 16;
 
 /// The items in as many buckets, or none where more than `MAX_BUCKET_LEN` would be in one, as where
 /// ranges are equal.
-pub(crate) fn buckets_of(alloc: Global, items: &[Item]) -> Result<Option<Chains>, AllocError>
+pub(crate) fn text_buckets_of(alloc: Global, items: &[Item]) -> Result<Option<Buckets>, AllocError>
     requires { 0 < length items.now }
-    ensures { IfOk result (λ buckets. IfSome buckets (AreBuckets items.now)) }
+    ensures { IfOk result (λ buckets. IfSome buckets (AreTextBuckets items.now)) }
 {
     let numbers = bucket_numbers(alloc, items)?;
     if is_crowded(alloc, &numbers)? {
         return Ok(None);
     }
-    Ok(Some(link_chains(alloc, items.len(), &numbers)?))
+    Ok(Some(link_buckets(alloc, items.len(), &numbers)?))
 }
 
 /// The place of the first item whose range is the text, sought in the text's bucket.
-pub(crate) fn place_in(items: &[Item], buckets: &Chains, text: &[u8]) -> Option<usize>
-    requires { AreBuckets items.now buckets.now }
+pub(crate) fn place_in(items: &[Item], buckets: &Buckets, text: &[u8]) -> Option<usize>
+    requires { AreTextBuckets items.now buckets.now }
     ensures { MatchFirst items.now text.now result }
 {
     let bucket = bucket_of(text, items.len());

@@ -1,12 +1,13 @@
-//! What makes questions to a long list fast, under the scheme by which the list was read.
+//! The index of a long list: what it is under which scheme (`indexed_items` says what it is for).
 ghost use Rattle.std.specs.Prelude.{IfOk, IfSome, ◌≡◌, ◌<◌, length, IsPermutation, IsSorted, map};
-ghost use Rattle.list_core.specs.Index.{IsIndex, IsRangeIndex, MatchFirst, AreRangeKeys, IsSeat};
+ghost use Rattle.list_core.specs.Index.{IsIndex, IsRangeIndex, MatchFirst, AreRangeKeys};
+ghost use Rattle.list_core.specs.Index.{IsPosition};
 ghost use Rattle.list_core.specs.Index.{text_at, range_key_cmp};
 ghost use Rattle.std.specs.Ordering.{is_lt, nat_cmp};
 ghost use Rattle.std.specs.Cmp.Lexicographic.{slice_cmp};
 
-use crate::chains::{Chains, chains_of};
-use crate::hashed_ranges::buckets_of;
+use crate::buckets::{Buckets, subtag_buckets_of};
+use crate::hashed_ranges::text_buckets_of;
 use crate::item::Item;
 use crate::ordered_text::OrderedText;
 use crate::scheme::Scheme;
@@ -19,12 +20,12 @@ const FEW: usize = 16;
 #[derive(Drop)]
 pub(crate) enum Index {
     /// For basic ranges: the places of the items in buckets by the hashes of their ranges.
-    Buckets(Chains),
+    Texts(Buckets),
     /// For basic ranges of which many have one hash: the places of the items in the order of their
     /// ranges' bytes.
     Ranges(Vec<usize>),
-    /// For extended ranges: the places of the items in chains.
-    Chains(Chains),
+    /// For extended ranges: the places of the items in buckets by one of their subtags each.
+    Subtags(Buckets),
 }
 
 /// The index of the items, where they are many.
@@ -40,7 +41,7 @@ pub(crate) fn index_of(
     }
     match scheme {
         Scheme::Basic => Ok(Some(range_index_of(alloc, items)?)),
-        Scheme::Extended => Ok(Some(Index::Chains(chains_of(alloc, items)?))),
+        Scheme::Extended => Ok(Some(Index::Subtags(subtag_buckets_of(alloc, items)?))),
     }
 }
 
@@ -49,11 +50,11 @@ pub(crate) fn sought_place(items: &[Item], places: &[usize], text: &[u8]) -> Opt
     requires { IsRangeIndex items.now places.now }
     ensures { MatchFirst items.now text.now result }
 {
-    let seat = seat_of(items, places, text);
-    if seat >= places.len() {
+    let position = position_of(items, places, text);
+    if position >= places.len() {
         return None;
     }
-    let place = places[seat];
+    let place = places[position];
     if items[place].is_range(text) {
         Some(place)
     } else {
@@ -66,16 +67,16 @@ fn range_index_of(alloc: Global, items: &[Item]) -> Result<Index, AllocError>
     requires { 0 < length items.now }
     ensures { IfOk result (IsIndex items.now) }
 {
-    match buckets_of(alloc, items)? {
-        Some(buckets) => Ok(Index::Buckets(buckets)),
+    match text_buckets_of(alloc, items)? {
+        Some(buckets) => Ok(Index::Texts(buckets)),
         None => Ok(Index::Ranges(places_of(alloc, items)?)),
     }
 }
 
 /// How many of the ranges are below the text.
-fn seat_of(items: &[Item], places: &[usize], text: &[u8]) -> usize
+fn position_of(items: &[Item], places: &[usize], text: &[u8]) -> usize
     requires { IsRangeIndex items.now places.now }
-    ensures { IsSeat items.now places.now text.now result }
+    ensures { IsPosition items.now places.now text.now result }
 {
     let mut low = 0;
     let mut high = places.len();
@@ -131,7 +132,7 @@ fn range_keys_of(alloc: Global, items: &[Item]) -> Result<Vec<RangeKey<'_>>, All
 /// Puts the keys in the order of their ranges' bytes, then of their places.
 fn sort_range_keys(keys: &mut Vec<RangeKey>)
     ensures same { IsPermutation keys.old.items keys.new.items }
-    ensures rising { IsSorted range_key_cmp keys.new.items }
+    ensures ascending { IsSorted range_key_cmp keys.new.items }
 {
     keys.sort_unstable()
 }

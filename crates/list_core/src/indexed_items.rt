@@ -1,4 +1,13 @@
-//! The items of a list with their index, by which a long list is asked.
+//! The items of a list with their index, and by which way a range is found among them:
+//!
+//! - Up to 16 items: each is compared, for a text here, for a tag by `deciding`.
+//! - More, read as basic ranges: a text is sought in hash buckets (`hashed_ranges`), or, where a
+//!   bucket would have more than 16 items, by bisection in the order of bytes (`index`, which
+//!   compares by `ordered_text`). The longest prefix of a tag that is found decides it.
+//! - More, read as extended ranges: each is in the bucket of one of its subtags (`buckets`). A tag,
+//!   packed into numbers once (`packed_tag`), is compared with those in the buckets of its own.
+//!
+//! `fingerprint` has the hashes of both kinds of buckets.
 ghost use Rattle.std.specs.Prelude.{◌≡◌, IfSome, length};
 ghost use Rattle.lang_core.specs.Text.{pieces};
 ghost use Rattle.lang_core.specs.Matching.{Basic};
@@ -58,10 +67,10 @@ impl<'a> IndexedItems<'a> {
         ensures { IsBest (λ _ i. Matches scheme (pieces i.range) (pieces tag.now)) self.now result }
     {
         match (scheme, self.index) {
-            (Scheme::Extended, Some(Index::Chains(chains))) => {
-                best_extended(self.items, chains, tag)
+            (Scheme::Extended, Some(Index::Subtags(buckets))) => {
+                best_extended(self.items, buckets, tag)
             }
-            (Scheme::Basic, Some(Index::Buckets(_) | Index::Ranges(_))) => {
+            (Scheme::Basic, Some(Index::Texts(_) | Index::Ranges(_))) => {
                 self.best_basic(tag.as_str().as_bytes())
             }
             _ => best_of(self.items, scheme, tag),
@@ -128,7 +137,7 @@ impl<'a> IndexedItems<'a> {
         ensures { MatchFirst self.now text.now result }
     {
         match self.index {
-            Some(Index::Buckets(buckets)) => place_in(self.items, buckets, text),
+            Some(Index::Texts(buckets)) => place_in(self.items, buckets, text),
             Some(Index::Ranges(places)) => sought_place(self.items, places, text),
             _ => first_place(self.items, text),
         }

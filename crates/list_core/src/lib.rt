@@ -14,7 +14,7 @@
 //! laws of these definitions are in [`laws`].
 #![tactic(auto)]
 
-mod chains;
+mod buckets;
 mod deciding;
 mod fault;
 mod field;

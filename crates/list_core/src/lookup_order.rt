@@ -50,7 +50,7 @@ fn order_keys_of(alloc: Global, items: &[Item]) -> Result<Vec<OrderKey>, AllocEr
 /// Puts the keys in the order in which lookup tries the items.
 fn sort_order_keys(keys: &mut Vec<OrderKey>)
     ensures same { IsPermutation keys.old.items keys.new.items }
-    ensures rising { IsSorted order_key_cmp keys.new.items }
+    ensures ascending { IsSorted order_key_cmp keys.new.items }
 {
     keys.sort_unstable()
 }

@@ -291,7 +291,7 @@ fn firsts_of(
     ensures { IfOk result (λ firsts. AreFirstsIfAny items.now order.now firsts.items) }
 {
     match index {
-        Some(Index::Buckets(_) | Index::Ranges(_)) => {
+        Some(Index::Texts(_) | Index::Ranges(_)) => {
             first_tried_of(alloc, &IndexedItems::new(items, index), order)
         }
         _ => Ok(Vec::new(alloc)),

@@ -4,6 +4,6 @@ pub mod MapsLabelsLemmas
 pub mod MapsLawsLemmas
 pub mod MapsLemmas
 pub mod MembersLemmas
-pub mod RisingLemmas
+pub mod AscendingLemmas
 pub mod WritingLemmas
 pub mod WritingTripLemmas

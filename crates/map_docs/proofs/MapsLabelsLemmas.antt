@@ -45,7 +45,7 @@ use Rattle.map_docs.specs.MembersRowsSeen.{keys_seen, live, rows_seen, strings_s
 use Rattle.map_docs.specs.Maps.{Labelled}
 use Rattle.map_docs.specs.MapsValue.{Languages}
 use Rattle.json_docs.proofs.FaultChecksLemmas.{AllPass-both, FirstFails-rest, FirstFails-front}
-use Rattle.row_docs.proofs.RisingKeys.{so_less as is_less}
+use Rattle.row_docs.proofs.AscendingKeys.{so_less as is_less}
 use Rattle.cell_core.proofs.Basics.{both_parts, first_part, less_than, second_part}
 
 -- ---- a language in lower case
@@ -442,7 +442,7 @@ pub labels_next : (rs : Rows) (r : List ℕ × Option Keys) (old new : List Labe
     → is_marked r.0 ≡ false → IsPermutation (rows_labels rs) old
     → AddsLanguages old new r.0 (unwrap_or r.1 [])
     → IsPermutation (rows_labels (rs ++ r ∷ [])) new
-labels_next rs r old new unmarked p (ls, same, rising, is) =
+labels_next rs r old new unmarked p (ls, same, ascending, is) =
     let here = under r.0 (languages_of (unwrap_or r.1 [])) in
     subst (λ t. IsPermutation t new)
     (sym (rows_labels_one rs r ∙ ap (λ t. rows_labels rs ++ t) (row_unmarked r unmarked)))
@@ -584,7 +584,7 @@ pub record HoldsRows (rows : Rows) (labels : List Labelled)
   pub map : IsMap key_cmp labels
   pub lesser : All (λ (r : String Global × Option HeldKeys). AreLesser labels (string_bytes r.0))
       left
-  pub rising : IsStrictlySortedBy string_cmp (keys_of left)
+  pub ascending : IsStrictlySortedBy string_cmp (keys_of left)
 
 -- the messages of the labels are smaller than the next one
 pub first_lesser : (rows : Rows) (labels : List Labelled) (r : String Global × Option HeldKeys)
@@ -605,7 +605,7 @@ skipped_next rows labels r left holds marked = record {
   lesser =
       all_rest (λ (x : String Global × Option HeldKeys). AreLesser labels (string_bytes x.0)) r left
       holds.lesser;
-  rising = holds.rising.1;
+  ascending = holds.ascending.1;
 }
 
 message_next : (rows : Rows) (old new : List Labelled) (r : String Global × Option HeldKeys)
@@ -626,8 +626,8 @@ message_next rows old new r left holds unmarked adds =
           left) (sym adds.3)
           (lesser_next old r.0 adds.0 left
           (all_rest (λ (x : String Global × Option HeldKeys). AreLesser old (string_bytes x.0))
-          r left holds.lesser) holds.rising.0);
-      rising = holds.rising.1;
+          r left holds.lesser) holds.ascending.0);
+      ascending = holds.ascending.1;
     }
 
 -- one row more is done, and its labels are added
@@ -645,11 +645,11 @@ HoldsRows-next rows old new r left holds adds = elim adds [
 -- at the beginning no row is done
 pub HoldsRows-none : (left : List (String Global × Option HeldKeys))
     → IsStrictlySortedBy string_cmp (keys_of left) → HoldsRows [] [] left
-HoldsRows-none left rising = record {
+HoldsRows-none left ascending = record {
   same = IsPermutation-refl [];
   map = tt;
   lesser = none_lesser left;
-  rising = rising;
+  ascending = ascending;
 }
 
 -- as many rows are seen as were read

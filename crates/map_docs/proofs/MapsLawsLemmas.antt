@@ -41,14 +41,15 @@ label_cmp_exact : (x y : Labelled) → label_cmp x y ≡ Equal → x ≡ y
 label_cmp_exact = exact_pairs key_cmp (slice_cmp text_cmp) key_cmp_exact texts_tied
 
 -- each key is less than the next
-rises_at : (es : List Labelled) (k : ℕ) (d : Labelled) → IsMap key_cmp es → suc k < length es
+ascends_at : (es : List Labelled) (k : ℕ) (d : Labelled) → IsMap key_cmp es → suc k < length es
     → key_cmp (get_or es k d).0 (get_or es (suc k) d).0 ≡ Less
-rises_at [] k d m h = absurd (omega arith)
-rises_at (e ∷ es) zero d m h =
+ascends_at [] k d m h = absurd (omega arith)
+ascends_at (e ∷ es) zero d m h =
     below-at key_cmp e.0 es 0 d (first_part (below_all key_cmp e.0 es) (is_sorted key_cmp es) m)
     (omega arith)
-rises_at (e ∷ es) (suc k) d m h =
-    rises_at es k d (second_part (below_all key_cmp e.0 es) (is_sorted key_cmp es) m) (omega arith)
+ascends_at (e ∷ es) (suc k) d m h =
+    ascends_at es k d (second_part (below_all key_cmp e.0 es) (is_sorted key_cmp es) m) (omega
+    arith)
 
 not_before : (x y : Labelled) → key_cmp x.0 y.0 ≡ Less → is_lt (label_cmp y x) ≡ false
 not_before x y less =
@@ -59,7 +60,7 @@ sorted_labels : (es : List Labelled) → IsMap key_cmp es → IsSorted label_cmp
 sorted_labels es m =
     λ k d from lt.
     rw add-one (not_before (get_or es k d) (get_or es (suc k) d)
-    (rises_at es k d m (omega (arith, lt))))
+    (ascends_at es k d m (omega (arith, lt))))
 
 same_lists : (rows : Rows) (x y : List Labelled) → IsPermutation (rows_labels rows) x
     → IsMap key_cmp x → IsPermutation (rows_labels rows) y → IsMap key_cmp y → x ≡ y

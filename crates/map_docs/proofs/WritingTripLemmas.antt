@@ -55,7 +55,7 @@ use Rattle.map_docs.specs.MembersRows.{strings_in, strings_of}
 use Rattle.json_docs.proofs.FaultChecksLemmas.{AllPass-both}
 use Rattle.json_docs.proofs.TextLineFeed.{read-line_feed}
 use Rattle.json_docs.proofs.ScanningReadingLemmas.{whole}
-use Rattle.row_docs.proofs.RisingKeys.{so_less as is_less}
+use Rattle.row_docs.proofs.AscendingKeys.{so_less as is_less}
 use Rattle.row_docs.proofs.EntriesWrittenRows.{list_of-items_of as listed}
 use Rattle.row_docs.proofs.EntriesLowerLemmas.{lower-IsLang as lower_lang}
 use Rattle.cell_core.proofs.Basics.{both_parts, first_part, less_than, second_part}
@@ -164,9 +164,9 @@ languages_back front (l ∷ ls) m =
 
 -- ---- messages that ascend, each with languages that ascend
 
-abbrev AreRising : Messages → Type 0
-AreRising [] = Unit {0}
-AreRising (m ∷ ms) = IsMap text_cmp m.1 × (length m.1 ≢ 0) × AreRising ms
+abbrev AreAscending : Messages → Type 0
+AreAscending [] = Unit {0}
+AreAscending (m ∷ ms) = IsMap text_cmp m.1 × (length m.1 ≢ 0) × AreAscending ms
 
 below_first : (k : EntryKey) (id : List ℕ) (ls : Languages) (rest : List Labelled) → length ls ≢ 0
     → T (below_all key_cmp k (under id ls ++ rest)) → bytes_eq k.0 id ≡ false
@@ -197,11 +197,11 @@ below_within id x (l ∷ ls) rest h =
     (second_part (is_lt (key_cmp (id, x) (id, l.0)))
     (below_all key_cmp (id, x) (under id ls ++ rest)) h))
 
-with_label-rises : (e : Labelled) (ms : Messages) → T (below_all key_cmp e.0 (flat ms))
-    → IsMap text_cmp ms → AreRising ms
-    → IsMap text_cmp (with_label e ms) × AreRising (with_label e ms)
-with_label-rises e [] h m r = (tt, (tt, (λ (never : 1 ≡ 0). absurd (omega arith)), tt))
-with_label-rises e (n ∷ ms) h m r = by_id (bytes_eq e.0.0 n.0) refl
+with_label-ascends : (e : Labelled) (ms : Messages) → T (below_all key_cmp e.0 (flat ms))
+    → IsMap text_cmp ms → AreAscending ms
+    → IsMap text_cmp (with_label e ms) × AreAscending (with_label e ms)
+with_label-ascends e [] h m r = (tt, (tt, (λ (never : 1 ≡ 0). absurd (omega arith)), tt))
+with_label-ascends e (n ∷ ms) h m r = by_id (bytes_eq e.0.0 n.0) refl
   where
     here : List ℕ × List (List ℕ)
     here = (e.0.1, e.1)
@@ -215,7 +215,7 @@ with_label-rises e (n ∷ ms) h m r = by_id (bytes_eq e.0.0 n.0) refl
     by_id : (b : Bool) → bytes_eq e.0.0 n.0 ≡ b
         → (let made : Messages =
         if b then (e.0.0, here ∷ n.1) ∷ ms else (e.0.0, here ∷ []) ∷ n ∷ ms in
-        IsMap text_cmp made × AreRising made)
+        IsMap text_cmp made × AreAscending made)
     by_id true is =
         let same : e.0.0 ≡ n.0 = (bytes_eq-Decides e.0.0 n.0).0 is in
         let within =
@@ -240,13 +240,13 @@ with_label-rises e (n ∷ ms) h m r = by_id (bytes_eq e.0.0 n.0) refl
           (tt, (λ (never : 1 ≡ 0). absurd (omega arith)), r),
         )
 
-by_message-rises : (es : List Labelled) → IsMap key_cmp es
-    → IsMap text_cmp (by_message es) × AreRising (by_message es)
-by_message-rises [] m = (tt, tt)
-by_message-rises (e ∷ es) m =
+by_message-ascends : (es : List Labelled) → IsMap key_cmp es
+    → IsMap text_cmp (by_message es) × AreAscending (by_message es)
+by_message-ascends [] m = (tt, tt)
+by_message-ascends (e ∷ es) m =
     let behind =
-    by_message-rises es (second_part (below_all key_cmp e.0 es) (is_sorted key_cmp es) m) in
-    with_label-rises e (by_message es)
+    by_message-ascends es (second_part (below_all key_cmp e.0 es) (is_sorted key_cmp es) m) in
+    with_label-ascends e (by_message es)
     (subst (λ (l : List Labelled). T (below_all key_cmp e.0 l)) (sym (flat-by_message es))
     (first_part (below_all key_cmp e.0 es) (is_sorted key_cmp es) m)) behind.0 behind.1
 
@@ -256,8 +256,8 @@ put_message : (front : Messages) (m : List ℕ × Languages) (rest : Messages)
     → IsMap text_cmp (front ++ m ∷ rest)
     → plain.put m.0 (plain.object (languages_members m.1)) (messages_members front)
     ≡ messages_members (front ++ m ∷ [])
-put_message [] m rest rising = refl
-put_message (f ∷ front) m rest rising =
+put_message [] m rest ascending = refl
+put_message (f ∷ front) m rest ascending =
     ap
     (λ o. match_ordering o
     (member m.0 (plain.object (languages_members m.1)) (messages_members (f ∷ front)))
@@ -267,11 +267,11 @@ put_message (f ∷ front) m rest rising =
     (above m.0 f.0
     (in_rest f.0 front m rest
     (first_part (below_all text_cmp f.0 (front ++ m ∷ rest))
-    (is_sorted text_cmp (front ++ m ∷ rest)) rising)))
+    (is_sorted text_cmp (front ++ m ∷ rest)) ascending)))
     ∙ ap (member f.0 (plain.object (languages_members f.1)))
     (put_message front m rest
     (second_part (below_all text_cmp f.0 (front ++ m ∷ rest))
-    (is_sorted text_cmp (front ++ m ∷ rest)) rising))
+    (is_sorted text_cmp (front ++ m ∷ rest)) ascending))
   where
     in_rest : (x : List ℕ) (xs : Messages) (y : List ℕ × Languages) (ys : Messages)
         → T (below_all text_cmp x (xs ++ y ∷ ys)) → text_cmp x y.0 ≡ Less
@@ -281,7 +281,7 @@ put_message (f ∷ front) m rest rising =
         in_rest x xs y ys
         (second_part (is_lt (text_cmp x z.0)) (below_all text_cmp x (xs ++ y ∷ ys)) h)
 
-messages_back : (front ms : Messages) → IsMap text_cmp (front ++ ms) → AreRising ms
+messages_back : (front ms : Messages) → IsMap text_cmp (front ++ ms) → AreAscending ms
     → of_members (members_outline (messages_members ms)) (messages_members front)
     ≡ Some (messages_members (front ++ ms))
 messages_back front [] m r = ap (λ l. Some (messages_members l)) (sym (append-nil front))
@@ -299,8 +299,8 @@ messages_back front (n ∷ ms) m r =
 -- the value of labels reads as itself
 pub langmaps_back : (es : List Labelled) → IsMap key_cmp es
     → of_json (outline (langmaps_value es)) ≡ Some (langmaps_value es)
-langmaps_back es m = let rises = by_message-rises es m in
-    ap (option_map plain.object) (messages_back [] (by_message es) rises.0 rises.1)
+langmaps_back es m = let ascends = by_message-ascends es m in
+    ap (option_map plain.object) (messages_back [] (by_message es) ascends.0 ascends.1)
 
 -- ---- its labels
 
@@ -343,7 +343,7 @@ first_id : (id : List ℕ) (ls : Languages) (rest : List Labelled) → length ls
 first_id id [] rest some w = absurd (some refl)
 first_id id (l ∷ ls) rest some w = w.0.id
 
-rows_back : (ms : Messages) → AreRising ms → AreWritable (flat ms)
+rows_back : (ms : Messages) → AreAscending ms → AreWritable (flat ms)
     → rows_labels (message_rows (messages_members ms)) ≡ flat ms
 rows_back [] r w = refl
 rows_back (m ∷ ms) r w =
@@ -359,8 +359,8 @@ rows_back (m ∷ ms) r w =
 pub labels_back : (es : List Labelled) → IsMap key_cmp es → AreWritable es
     → rows_labels (message_rows (messages_members (by_message es))) ≡ es
 labels_back es m w =
-    let rises = by_message-rises es m in
-    rows_back (by_message es) rises.1 (subst AreWritable (sym (flat-by_message es)) w)
+    let ascends = by_message-ascends es m in
+    rows_back (by_message es) ascends.1 (subst AreWritable (sym (flat-by_message es)) w)
     ∙ flat-by_message es
 
 -- ---- its tests
@@ -435,7 +435,7 @@ keys_pass_back k id before (l ∷ ls) rest w m all = (
       laters bs h.1,
     )
 
-rows_pass_back : (k : ℕ) (ms : Messages) → AreRising ms → AreWritable (flat ms)
+rows_pass_back : (k : ℕ) (ms : Messages) → AreAscending ms → AreWritable (flat ms)
     → AllPass (members_checks k (message_rows (messages_members ms)))
 rows_pass_back k [] r w = tt
 rows_pass_back k (m ∷ ms) r w =
@@ -459,9 +459,9 @@ rows_pass_back k (m ∷ ms) r w =
 pub passes_back : (es : List Labelled) → IsMap key_cmp es → AreWritable es
     → AllPass (langmaps_checks (langmaps_value es))
 passes_back es m w =
-    let rises = by_message-rises es m in (
+    let ascends = by_message-ascends es m in (
       refl,
-      rows_pass_back 0 (by_message es) rises.1
+      rows_pass_back 0 (by_message es) ascends.1
           (subst AreWritable (sym (flat-by_message es)) w),
     )
 

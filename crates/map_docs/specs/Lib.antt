@@ -6,6 +6,6 @@ pub mod MapsLaws
 pub mod MapsValue
 pub mod MembersRows
 pub mod MembersRowsSeen
-pub mod RisingLabels
+pub mod AscendingLabels
 pub mod WritingMaps
 pub mod WritingTexts

@@ -30,7 +30,7 @@ use row_docs::{language_of, of_cell};
 use std::alloc::{AllocError, Global};
 use std::collections::BTreeMap;
 
-/// The labels of the rows in rising order of key, or the refusal of the first test that fails.
+/// The labels of the rows in ascending order of key, or the refusal of the first test that fails.
 pub(crate) fn labels_of(alloc: Global, rows: Rows) -> Result<LangMaps, DocCause>
     requires { AreSorted rows.items }
     ensures { MatchResult result

@@ -6,7 +6,7 @@ pub fn one_reading()
     ensures { OneReading }
 {}
 
-/// The document of labels in rising order of key reads as these labels.
+/// The document of labels in ascending order of key reads as these labels.
 pub fn reads_back()
     ensures { ReadsBack }
 {}

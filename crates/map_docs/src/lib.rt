@@ -10,13 +10,13 @@
 //! Callers find what they need in `docs_core`.
 #![tactic(auto)]
 
+mod ascending;
 mod ascending_map;
 mod labels;
 pub mod laws;
 mod maps;
 mod members;
 mod reading;
-mod rising;
 mod rows;
 mod taking;
 mod writing;

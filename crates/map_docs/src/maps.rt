@@ -22,7 +22,7 @@ pub struct KeyedLabel {
     pub label: Label,
 }
 
-/// The labels of messages by language, in strictly rising order of key: by the bytes of the id,
+/// The labels of messages by language, in strictly ascending order of key: by the bytes of the id,
 /// then by those of the language. A contract sees them as a list.
 #[derive(Drop)]
 pub struct LangMaps {
@@ -78,8 +78,8 @@ impl LangMaps {
         self.labels.is_empty()
     }
 
-    /// The message, the language and the label at a place in rising order of key, counted from 0;
-    /// none from `len` on.
+    /// The message, the language and the label at a place in ascending order of key, counted from
+    /// 0; none from `len` on.
     pub fn nth(&self, place: usize) -> Option<(&MessageId, &Lang, &Label)>
         ensures { option_map (λ e. ((e.0.now, e.1.now), e.2.now)) result
             ≡ slice_get self.now place }
@@ -90,7 +90,7 @@ impl LangMaps {
         }
     }
 
-    /// All labels with their messages and languages, in rising order of key.
+    /// All labels with their messages and languages, in ascending order of key.
     pub fn iter(&self) -> slice::Iter<'_, KeyedLabel>
         ensures labels { labels_of (iter_rest result) ≡ self.now }
         ensures sorted { IsMap key_cmp self.now }
@@ -110,7 +110,7 @@ impl LangMaps {
         Ok(())
     }
 
-    /// The labels, in rising order of key.
+    /// The labels, in ascending order of key.
     pub fn labels(&self) -> &[KeyedLabel]
         ensures labels { labels_of result.now ≡ self.now }
         ensures sorted { IsMap key_cmp self.now }

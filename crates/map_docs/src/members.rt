@@ -25,13 +25,13 @@ use crate::ascending_map::AscendingMap;
 use crate::rows::{Keys, Rows, Strings};
 use json::{Reader, Scratch, Token, Value};
 use json_docs::{
-    DocCause, MOST_DEPTH, begins_object, check_value, is_scalar, items_of, next_name, next_value,
+    DocCause, MAX_DEPTH, begins_object, check_value, is_scalar, items_of, next_name, next_value,
     text_of,
 };
 use std::alloc::{AllocError, Global};
 
 /// How deep the value of a key nests at most.
-const KEY_DEPTH: usize = MOST_DEPTH - 2;
+const KEY_DEPTH: usize = MAX_DEPTH - 2;
 
 /// The rows of the document in byte order of their names, or none where it is no object. Of two
 /// members of one name the last counts.

@@ -8,16 +8,16 @@ ghost use Rattle.row_docs.specs.Reading.{IsOfDocument, no_memory};
 ghost use Rattle.map_docs.specs.MapsLabels.{AreLangMaps, RefusesLangMaps};
 ghost use Rattle.map_docs.specs.Maps.{Labelled};
 
+use crate::ascending::take_text;
 use crate::labels::labels_of;
 use crate::maps::LangMaps;
 use crate::members::read_rows;
-use crate::rising::take_text;
 use crate::taking::TakeLabels;
 use json::Scratch;
 use json_docs::{DocCause, DocFault, Spot, check_numbers, text_in};
 use std::alloc::Global;
 
-/// The labels of a language-map document, in rising order of key: an object from message id to
+/// The labels of a language-map document, in ascending order of key: an object from message id to
 /// language map (JSON-LD 1.1, sections 4.6.2 and 9.8).
 ///
 /// A member whose name begins with `@` is skipped. A string is a label of one text, an array one of
@@ -51,7 +51,7 @@ pub fn langmaps_of_document(
     }
 }
 
-/// Gives the labels of the input document with this number to the taker, in rising order of key.
+/// Gives the labels of the input document with this number to the taker, in ascending order of key.
 /// Where the document has them in another order, or leaves some out, they are answered instead, and
 /// the taker may have taken some: none is answered where the taker took them all.
 ///

@@ -8,7 +8,7 @@ use cell_core::{Key, Label, MessageId};
 use lang_core::Lang;
 use std::alloc::Global;
 
-/// Takes the labels of a document one after another, in rising order of key.
+/// Takes the labels of a document one after another, in ascending order of key.
 pub trait TakeLabels {
     /// The second value is what the first becomes by these labels.
     ghost Holds: { Self → Self → List Labelled → Type 0 };

@@ -23,7 +23,7 @@ use row_docs::{finish, write_texts};
 use std::alloc::{AllocError, Global};
 
 /// The text of the language-map document of these labels, with its line feed: one object from
-/// message id to language map (JSON-LD 1.1, section 9.8), in rising order of key.
+/// message id to language map (JSON-LD 1.1, section 9.8), in ascending order of key.
 ///
 /// A label of one text is a string, one of several an array of strings. Out of memory is the only
 /// refusal (26).

@@ -80,26 +80,26 @@ abbrev Precedes : OrderKey → OrderKey → Type 0
 Precedes s t = s.place < t.place
 
 -- The keys in written order have ascending places.
-pub turns_rise : (k : ℕ) (items : List Item) → AllPairs Precedes (order_keys_from items k)
-turns_rise k [] = λ i j d lt low. absurd (omega arith)
-turns_rise k (i ∷ items) = elim (cases_Bool (is_tried i)) [
+pub turns_ascend : (k : ℕ) (items : List Item) → AllPairs Precedes (order_keys_from items k)
+turns_ascend k [] = λ i j d lt low. absurd (omega arith)
+turns_ascend k (i ∷ items) = elim (cases_Bool (is_tried i)) [
   | inl e ↦
       rw e (AllPairs-cons Precedes (record { missing_weight = 1000 - i.weight; place = k })
       (order_keys_from items (k + 1))
       (All-weaker (λ (t : OrderKey). k + 1 ≤ t.place) (λ (t : OrderKey). k < t.place)
       (λ t h. omega arith) (order_keys_from items (k + 1)) (turns_behind (k + 1) items))
-      (turns_rise (k + 1) items))
-  | inr e ↦ rw e (turns_rise (k + 1) items)
+      (turns_ascend (k + 1) items))
+  | inr e ↦ rw e (turns_ascend (k + 1) items)
 ]
 
 -- keys of one missing weight, in written order, are in order
 pub one_weight_sorted : (missing_weight : ℕ) (keys : List OrderKey)
     → All (λ t. t.missing_weight ≡ missing_weight) keys → AllPairs (λ s t. s.place < t.place) keys
     → IsSorted order_key_cmp keys
-one_weight_sorted missing_weight keys same rise = λ k d low lt.
+one_weight_sorted missing_weight keys same ascend = λ k d low lt.
     let a = same k d (omega arith) in
     let b = same (k + 1) d (omega arith) in
-    let c = rise k (k + 1) d (omega arith) (omega arith) in
+    let c = ascend k (k + 1) d (omega arith) (omega arith) in
     tied (get_or keys (k + 1) d) (get_or keys k d) (b ∙ sym a) (omega arith) where
       tied : (s t : OrderKey) → s.missing_weight ≡ t.missing_weight → t.place ≤ s.place
           → is_lt (order_key_cmp s t) ≡ false
@@ -180,9 +180,9 @@ each_once items ordered o =
 
 -- ---- by weight downwards
 
-lack_rises : (s t : OrderKey) → is_lt (order_key_cmp t s) ≡ false
+lack_ascends : (s t : OrderKey) → is_lt (order_key_cmp t s) ≡ false
     → s.missing_weight ≤ t.missing_weight
-lack_rises s t h = grind (arith, nat_tests)
+lack_ascends s t h = grind (arith, nat_tests)
 
 small_item : (items : List Item) (t : OrderKey) → All (λ i. i.weight ≤ 1000) items
     → IsOrderKeyOf (slice_get items) t → (item_of items t).weight ≤ 1000
@@ -204,8 +204,8 @@ weights_fall items ordered small o =
     let of_t : IsOrderKeyOf (slice_get items) t = all j d low in
     let far : is_lt (order_key_cmp t s) ≡ false =
     sorted_far (λ a b. is_lt (order_key_cmp a b)) (ranks_by order_key_total (λ a. a)) o.keys
-    o.keys_ok.rising i j d (omega arith) low in
-    let le = lack_rises s t far in
+    o.keys_ok.ascending i j d (omega arith) low in
+    let le = lack_ascends s t far in
     let lack_s = lack_of_item items s of_s in
     let lack_t = lack_of_item items t of_t in
     let small_s = small_item items s small of_s in
@@ -254,9 +254,9 @@ as_written items ordered o weight =
     (λ (t : OrderKey). t.missing_weight ≡ 1000 - weight) order_key_has first
     (λ t h e. lack_of_item items t h
     ∙ ap (λ (n : ℕ). 1000 - n) (same_weight (item_of items t) weight e)) (written items))
-    (AllPairs-filter Precedes order_key_has first (turns_rise 0 items)))
+    (AllPairs-filter Precedes order_key_has first (turns_ascend 0 items)))
     (IsSortedBy-filter (λ a b. is_lt (order_key_cmp a b)) (ranks_by order_key_total (λ a. a))
-    order_key_has o.keys o.keys_ok.rising)
+    order_key_has o.keys o.keys_ok.ascending)
     (λ f. sum_passed f order_key_has first
     ∙ (sym
     (sum_by-IsPermutation (λ t. cond (order_key_has t) (f t) 0) first o.keys

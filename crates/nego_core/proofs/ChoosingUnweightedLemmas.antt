@@ -8,7 +8,7 @@ use Rattle.std.proofs.lemmas.List.Sorted.{IsPermutation-refl}
 use Rattle.lang_core.specs.Text.{joined}
 use Rattle.nego_core.proofs.ChoosingNothingRefused.{no_tag_refused}
 use Rattle.list_core.proofs.LookupOrderLemmas.{one_order_of}
-use Rattle.nego_core.proofs.ChoosingOrderLemmas.{one_weight_sorted, turns_lack, turns_rise}
+use Rattle.nego_core.proofs.ChoosingOrderLemmas.{one_weight_sorted, turns_lack, turns_ascend}
 use Rattle.nego_core.proofs.ChoosingOrderLemmas.{tried_are}
 use Rattle.list_core.specs.Item.{Item}
 use Rattle.list_core.specs.LookupOrder.{is_tried, order_keys_from, IsOrder}
@@ -44,9 +44,9 @@ written_order items h = record {
   keys_ok =
       record {
         each_once = IsPermutation-refl (order_keys_from items 0);
-        rising =
+        ascending =
             one_weight_sorted 0 (order_keys_from items 0) (turns_lack 1000 items h)
-            (turns_rise 0 items);
+            (turns_ascend 0 items);
       };
   items_are = sym (same_passed items h) ∙ sym (tried_are items);
 }

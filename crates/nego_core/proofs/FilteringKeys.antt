@@ -172,14 +172,14 @@ pub filtered : (scheme : Scheme) (items : List Item) (tags : List (List ℕ))
     → AreKeys scheme items 0 tags (map key_of filter_keys) → IsPermutation filter_keys sorted
     → IsSorted filter_key_cmp sorted → picks ≡ map (λ r. pick_of (key_of r)) sorted
     → IsFiltered scheme items tags picks
-filtered scheme items tags filter_keys sorted picks a same rising p =
+filtered scheme items tags filter_keys sorted picks a same ascending p =
     record {
       all = map key_of filter_keys;
       keys = map key_of sorted;
       all_ok = a;
       each_once =
           IsPermutation-map key_of filter_keys sorted same;
-      rising =
-          sorted_keys sorted rising;
+      ascending =
+          sorted_keys sorted ascending;
       picks_are = p ∙ map_map sorted;
     }

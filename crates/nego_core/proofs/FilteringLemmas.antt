@@ -84,5 +84,5 @@ one_filtered scheme items tags a b f g =
     f.picks_are
     ∙ (ap (map pick_of)
     (one_order key_cmp key_total key_tied g.all f.keys g.keys
-    (subst (λ (x : List Key). IsPermutation x f.keys) all f.each_once) f.rising g.each_once
-    g.rising) ∙ sym g.picks_are)
+    (subst (λ (x : List Key). IsPermutation x f.keys) all f.each_once) f.ascending g.each_once
+    g.ascending) ∙ sym g.picks_are)

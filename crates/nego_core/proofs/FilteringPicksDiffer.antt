@@ -36,18 +36,18 @@ keys_behind scheme items from (l ∷ langs) (k ∷ keys) a = elim a [
 abbrev StandsBefore : Key → Key → Type 0
 StandsBefore j k = j.place < k.place
 
-keys_rise : (scheme : Scheme) (items : List Item) (from : ℕ) (langs : List (List ℕ))
+keys_ascend : (scheme : Scheme) (items : List Item) (from : ℕ) (langs : List (List ℕ))
     (keys : List Key) → AreKeys scheme items from langs keys → AllPairs StandsBefore keys
-keys_rise scheme items from [] [] a = λ i j d lt low. absurd (omega arith)
-keys_rise scheme items from [] (k ∷ keys) a = absurd a
-keys_rise scheme items from (l ∷ langs) [] a = λ i j d lt low. absurd (omega arith)
-keys_rise scheme items from (l ∷ langs) (k ∷ keys) a = elim a [
-  | inl x ↦ keys_rise scheme items (from + 1) langs (k ∷ keys) x.1
+keys_ascend scheme items from [] [] a = λ i j d lt low. absurd (omega arith)
+keys_ascend scheme items from [] (k ∷ keys) a = absurd a
+keys_ascend scheme items from (l ∷ langs) [] a = λ i j d lt low. absurd (omega arith)
+keys_ascend scheme items from (l ∷ langs) (k ∷ keys) a = elim a [
+  | inl x ↦ keys_ascend scheme items (from + 1) langs (k ∷ keys) x.1
   | inr x ↦ AllPairs-cons StandsBefore k keys
       (All-weaker (λ (j : Key). from + 1 ≤ j.place) (StandsBefore k)
       (λ j h. let p = x.0.place_is in omega arith) keys
       (keys_behind scheme items (from + 1) langs keys x.1))
-      (keys_rise scheme items (from + 1) langs keys x.1)
+      (keys_ascend scheme items (from + 1) langs keys x.1)
 ]
 
 -- ---- how often a place is among keys
@@ -119,4 +119,4 @@ pub picks_apart : (scheme : Scheme) (items : List Item) (langs : List (List ℕ)
 picks_apart scheme items langs picks f =
     subst (AllPairs (λ (p q : Pick). p.place ≢ q.place)) (sym f.picks_are)
     (pairs_map (λ (p q : Pick). p.place ≢ q.place) pick_of f.keys
-    (kept_apart f.all f.keys f.each_once (keys_rise scheme items 0 langs f.all f.all_ok)))
+    (kept_apart f.all f.keys f.each_once (keys_ascend scheme items 0 langs f.all f.all_ok)))

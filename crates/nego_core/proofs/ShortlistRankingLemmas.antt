@@ -351,7 +351,7 @@ rank_matched s items langs left less keys ranked i text lang rest fits least t h
       least m (All-contains (Contains left) some m among one.0) (one.1, p.1))
       here (All-contains_itself here) in
       first_front P (map pieces here) (rest some) (pieces text)
-      (least_first P here text ((are.each text).1 (own, fits.0)) o are.rising low) in
+      (least_first P here text ((are.each text).1 (own, fits.0)) o are.ascending low) in
       h.finds some found a (put_in P before after (pieces text) found next whole);
   each = each_of langs left less ranked text lang t h.each;
   inside = λ l c. h.inside l (t.5 l c);
@@ -436,12 +436,12 @@ not_after : (ms : List MatchedLang) (i j : ℕ) (d : MatchedLang) → IsSorted m
 not_after ms i j d up le low =
     sorted_far (λ a b. is_lt (matched_cmp a b)) (ranks_by matched_total (λ a. a)) ms up i j d le low
 
-tried_rises : (a b : MatchedLang) → is_lt (matched_cmp b a) ≡ false → a.tried ≤ b.tried
-tried_rises a b h = grind (arith, nat_tests)
+tried_ascends : (a b : MatchedLang) → is_lt (matched_cmp b a) ≡ false → a.tried ≤ b.tried
+tried_ascends a b h = grind (arith, nat_tests)
 
-langs_rise : (a b : MatchedLang) → is_lt (matched_cmp b a) ≡ false → b.tried ≡ a.tried
+langs_ascend : (a b : MatchedLang) → is_lt (matched_cmp b a) ≡ false → b.tried ≡ a.tried
     → ¬ Ascends b.lang a.lang
-langs_rise a b h e low =
+langs_ascend a b h e low =
     let less = less_lt (slice_cmp nat_cmp b.lang a.lang) low in
     let same : is_lt (matched_cmp b a) ≡ is_lt (slice_cmp nat_cmp b.lang a.lang) =
     rw (sym (nat_cmp_is b.tried a.tried Equal e)) refl in
@@ -541,7 +541,7 @@ matched_fits s items langs left ms keys at next k m are up o low e h inside in_m
           let after : is_lt (matched_cmp (get_or ms g.0 g.1) m) ≡ false =
           subst (λ (x : MatchedLang). is_lt (matched_cmp (get_or ms g.0 g.1) x) ≡ false) (sym other)
           (not_after ms next g.0 g.1 up g.2 g.3) in
-          langs_rise m (get_or ms g.0 g.1) after (g.5 ∙ sym same)
+          langs_ascend m (get_or ms g.0 g.1) after (g.5 ∙ sym same)
           (subst (λ (x : List ℕ). Ascends x m.lang) (sym g.4) below),
     )
 
@@ -569,7 +569,7 @@ none_matched w items langs left ms keys at next k are o low e h inside later =
           elim later [
             | inl past ↦ (let in_ms = g.3 in let from = g.2 in omega arith)
             | inr other ↦
-                (let rises = tried_rises (get_or ms next g.1) (get_or ms g.0 g.1)
+                (let ascends = tried_ascends (get_or ms next g.1) (get_or ms g.0 g.1)
                 (not_after ms next g.0 g.1 m.1 g.2 g.3) in
                 let late = h.late next g.1 (omega arith) (let a = g.2 in let b = g.3 in omega
                 arith) in
@@ -594,7 +594,7 @@ matched_later w items langs left ms at next are h later = record {
   by Off m q d le in_ms other =
       absurd (let none : length ms ≡ 0 = ap length m in omega arith)
   by (By s) m q d le in_ms other =
-      let rises = tried_rises (get_or ms next d) (get_or ms q d)
+      let ascends = tried_ascends (get_or ms next d) (get_or ms q d)
       (not_after ms next q d m.1 le in_ms) in
       let late = h.late next d (omega arith) (omega arith) in
       let apart = other d in

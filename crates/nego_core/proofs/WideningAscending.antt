@@ -20,9 +20,9 @@ pub all_above : (x : List ℕ) (xs : List (List ℕ)) → AllPairs Ascends (x �
 all_above x xs h = λ k d low. h zero (suc k) d (omega arith) (omega arith)
 
 -- what follows the first text of an ascending list ascends
-pub rising_tail : (x : List ℕ) (xs : List (List ℕ)) → AllPairs Ascends (x ∷ xs)
+pub ascending_tail : (x : List ℕ) (xs : List (List ℕ)) → AllPairs Ascends (x ∷ xs)
     → AllPairs Ascends xs
-rising_tail x xs h = λ i j d lt low. h (suc i) (suc j) d (omega arith) (omega arith)
+ascending_tail x xs h = λ i j d lt low. h (suc i) (suc j) d (omega arith) (omega arith)
 
 -- of two texts not both are below the other
 pub not_both : (x y : List ℕ) → Ascends x y → Ascends y x → ⊥
@@ -99,37 +99,39 @@ put_all Q x (y ∷ ys) q h =
     put_all_at Q (slice_cmp nat_cmp x y) x y ys (put_in x ys) q h
     (put_all Q x ys q (All-tail Q y ys h))
 
-put_rising_at : (o : Ordering) (x y : List ℕ) (ys rest : List (List ℕ)) → slice_cmp nat_cmp x y ≡ o
+put_ascending_at : (o : Ordering) (x y : List ℕ) (ys rest : List (List ℕ)) → slice_cmp nat_cmp x y ≡
+    o
     → AllPairs Ascends (y ∷ ys) → AllPairs Ascends rest → (Ascends y x → All (Ascends y) rest)
     → AllPairs Ascends (put_at o x y ys rest)
-put_rising_at Less x y ys rest e h r f =
+put_ascending_at Less x y ys rest e h r f =
     AllPairs-cons Ascends x (y ∷ ys)
     (All-cons (Ascends x) y ys e
     (All-weaker (Ascends y) (Ascends x) (λ z l. nat_list_cmp_total.trans x y z e l) ys
     (all_above y ys h))) h
-put_rising_at Equal x y ys rest e h r f = h
-put_rising_at Greater x y ys rest e h r f = AllPairs-cons Ascends y rest (f (above x y e)) r
+put_ascending_at Equal x y ys rest e h r f = h
+put_ascending_at Greater x y ys rest e h r f = AllPairs-cons Ascends y rest (f (above x y e)) r
 
-put_rising : (x : List ℕ) (ys : List (List ℕ)) → AllPairs Ascends ys
+put_ascending : (x : List ℕ) (ys : List (List ℕ)) → AllPairs Ascends ys
     → AllPairs Ascends (put_in x ys)
-put_rising x [] h = AllPairs-cons Ascends x [] (All-nil (Ascends x)) h
-put_rising x (y ∷ ys) h =
-    put_rising_at (slice_cmp nat_cmp x y) x y ys (put_in x ys) refl h
-    (put_rising x ys (rising_tail y ys h)) (λ l. put_all (Ascends y) x ys l (all_above y ys h))
+put_ascending x [] h = AllPairs-cons Ascends x [] (All-nil (Ascends x)) h
+put_ascending x (y ∷ ys) h =
+    put_ascending_at (slice_cmp nat_cmp x y) x y ys (put_in x ys) refl h
+    (put_ascending x ys (ascending_tail y ys h)) (λ l. put_all (Ascends y) x ys l (all_above y ys
+    h))
 
 -- ---- those that pass a test, in ascending order
 
 -- the texts of a list that pass a test, each once, in ascending order
-abbrev pub rising_of : (List ℕ → Bool) → List (List ℕ) → List (List ℕ)
-rising_of p [] = []
-rising_of p (x ∷ xs) = if p x then put_in x (rising_of p xs) else rising_of p xs
+abbrev pub ascending_of : (List ℕ → Bool) → List (List ℕ) → List (List ℕ)
+ascending_of p [] = []
+ascending_of p (x ∷ xs) = if p x then put_in x (ascending_of p xs) else ascending_of p xs
 
 -- that list ascends
-pub rising_is : (p : List ℕ → Bool) (xs : List (List ℕ)) → AllPairs Ascends (rising_of p xs)
-rising_is p [] = λ i j d lt low. absurd (omega arith)
-rising_is p (x ∷ xs) = elim (cases_Bool (p x)) [
-  | inl e ↦ rw e (put_rising x (rising_of p xs) (rising_is p xs))
-  | inr e ↦ rw e (rising_is p xs)
+pub ascending_is : (p : List ℕ → Bool) (xs : List (List ℕ)) → AllPairs Ascends (ascending_of p xs)
+ascending_is p [] = λ i j d lt low. absurd (omega arith)
+ascending_is p (x ∷ xs) = elim (cases_Bool (p x)) [
+  | inl e ↦ rw e (put_ascending x (ascending_of p xs) (ascending_is p xs))
+  | inr e ↦ rw e (ascending_is p xs)
 ]
 
 -- the text passes the test
@@ -137,30 +139,30 @@ abbrev pub IsPassed : (List ℕ → Bool) → List ℕ → Type 0
 IsPassed p x = IsTrue (p x)
 
 -- each is one of the list, and passes
-pub rising_from : (P : List ℕ → Type 0) (p : List ℕ → Bool) (xs : List (List ℕ)) (z : List ℕ)
-    → ((x : List ℕ) → IsPassed p x → P x) → Contains (rising_of p xs) z → Contains xs z × P z
-rising_from P p [] z f c = absurd (let low = c.1 in omega arith)
-rising_from P p (x ∷ xs) z f c = elim (cases_Bool (p x)) [
-  | inl e ↦ elim (put_from x z (rising_of p xs) (rw e at c)) [
+pub ascending_from : (P : List ℕ → Type 0) (p : List ℕ → Bool) (xs : List (List ℕ)) (z : List ℕ)
+    → ((x : List ℕ) → IsPassed p x → P x) → Contains (ascending_of p xs) z → Contains xs z × P z
+ascending_from P p [] z f c = absurd (let low = c.1 in omega arith)
+ascending_from P p (x ∷ xs) z f c = elim (cases_Bool (p x)) [
+  | inl e ↦ elim (put_from x z (ascending_of p xs) (rw e at c)) [
     | inl same ↦ (subst (Contains (x ∷ xs)) same (contains_first x xs), subst P same (f x e))
     | inr later ↦
-        (let rest = rising_from P p xs z f later in (contains_later x z xs rest.0, rest.1))
+        (let rest = ascending_from P p xs z f later in (contains_later x z xs rest.0, rest.1))
   ]
   | inr e ↦
-      (let rest = rising_from P p xs z f (rw e at c) in (contains_later x z xs rest.0, rest.1))
+      (let rest = ascending_from P p xs z f (rw e at c) in (contains_later x z xs rest.0, rest.1))
 ]
 
 -- each of the list that passes is one
-pub rising_has : (p : List ℕ → Bool) (xs : List (List ℕ)) (z : List ℕ) → IsPassed p z
-    → Contains xs z → Contains (rising_of p xs) z
-rising_has p [] z t c = absurd (let low = c.1 in omega arith)
-rising_has p (x ∷ xs) z t c = elim (contains_cases x z xs c) [
+pub ascending_has : (p : List ℕ → Bool) (xs : List (List ℕ)) (z : List ℕ) → IsPassed p z
+    → Contains xs z → Contains (ascending_of p xs) z
+ascending_has p [] z t c = absurd (let low = c.1 in omega arith)
+ascending_has p (x ∷ xs) z t c = elim (contains_cases x z xs c) [
   | inl same ↦
       (let e : IsTrue (p x) = subst (IsPassed p) (sym same) t in
-      rw e (subst (Contains (put_in x (rising_of p xs))) same (put_own x (rising_of p xs))))
+      rw e (subst (Contains (put_in x (ascending_of p xs))) same (put_own x (ascending_of p xs))))
   | inr later ↦ elim (cases_Bool (p x)) [
-    | inl e ↦ rw e (put_kept x z (rising_of p xs) (rising_has p xs z t later))
-    | inr e ↦ rw e (rising_has p xs z t later)
+    | inl e ↦ rw e (put_kept x z (ascending_of p xs) (ascending_has p xs z t later))
+    | inr e ↦ rw e (ascending_has p xs z t later)
   ]
 ]
 
@@ -192,18 +194,18 @@ later_of x y z xs ys e h c d = elim (contains_cases y z ys d) [
 ]
 
 -- two ascending lists with the same members are one
-pub one_rising : (xs ys : List (List ℕ)) → AllPairs Ascends xs → AllPairs Ascends ys
+pub one_ascending : (xs ys : List (List ℕ)) → AllPairs Ascends xs → AllPairs Ascends ys
     → ((z : List ℕ) → Contains xs z → Contains ys z)
     → ((z : List ℕ) → Contains ys z → Contains xs z) → xs ≡ ys
-one_rising [] [] h g f b = refl
-one_rising [] (y ∷ ys) h g f b =
+one_ascending [] [] h g f b = refl
+one_ascending [] (y ∷ ys) h g f b =
     absurd (let c = b y (contains_first y ys) in let low = c.1 in omega arith)
-one_rising (x ∷ xs) [] h g f b =
+one_ascending (x ∷ xs) [] h g f b =
     absurd (let c = f x (contains_first x xs) in let low = c.1 in omega arith)
-one_rising (x ∷ xs) (y ∷ ys) h g f b =
+one_ascending (x ∷ xs) (y ∷ ys) h g f b =
     let e = first_same x y xs ys h g (f x (contains_first x xs)) (b y (contains_first y ys)) in
     let rest =
-    one_rising xs ys (rising_tail x xs h) (rising_tail y ys g)
+    one_ascending xs ys (ascending_tail x xs h) (ascending_tail y ys g)
     (λ z c. later_of x y z xs ys e h c (f z (contains_later x z xs c)))
     (λ z c. later_of y x z ys xs (sym e) g c (b z (contains_later y z ys c))) in
     ap (λ (w : List ℕ). w ∷ xs) e ∙ ap (λ (ws : List (List ℕ)). y ∷ ws) rest

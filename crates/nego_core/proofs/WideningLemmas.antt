@@ -30,9 +30,9 @@ use Rattle.nego_core.proofs.ChoosingCandidatesLemmas.{first_append, first_front,
 use Rattle.nego_core.proofs.ChoosingCandidatesLemmas.{first_later, one_first, ordered_items}
 use Rattle.list_core.proofs.LookupOrderLemmas.{one_order_of}
 use Rattle.list_core.proofs.FirstTriedPrefixes.{joined-pieces}
-use Rattle.nego_core.proofs.WideningAscending.{all_above, not_both, one_rising, rising_from}
-use Rattle.nego_core.proofs.WideningAscending.{rising_has}
-use Rattle.nego_core.proofs.WideningAscending.{rising_is, rising_of, rising_tail}
+use Rattle.nego_core.proofs.WideningAscending.{all_above, not_both, one_ascending, ascending_from}
+use Rattle.nego_core.proofs.WideningAscending.{ascending_has}
+use Rattle.nego_core.proofs.WideningAscending.{ascending_is, ascending_of, ascending_tail}
 use Rattle.list_core.specs.Item.{Item}
 use Rattle.list_core.specs.Deciding.{Matches, NamedRefuse}
 use Rattle.nego_core.specs.LangSet.{is_among}
@@ -98,25 +98,25 @@ test_of_matches scheme.Extended i (Some tag) h = test_of_extended (pieces i.rang
 
 -- the languages that the range of an item matches, each once, in ascending order
 abbrev pub matched_of : Scheme → List (List ℕ) → Item → List (List ℕ)
-matched_of s langs i = rising_of (λ lang. test_of s i (tag_of lang)) langs
+matched_of s langs i = ascending_of (λ lang. test_of s i (tag_of lang)) langs
 
 -- they are what the definition says
 pub matched_are : (s : Scheme) (langs : List (List ℕ)) (i : Item)
     → AreMatched s langs i (matched_of s langs i)
 matched_are s langs i = record {
   each = λ lang. (
-    (λ c. rising_from (MatchesLang s i) (λ l. test_of s i (tag_of l)) langs lang
+    (λ c. ascending_from (MatchesLang s i) (λ l. test_of s i (tag_of l)) langs lang
         (λ l t. matches_of_test s i (tag_of l) t) c),
-    (λ c. rising_has (λ l. test_of s i (tag_of l)) langs lang
+    (λ c. ascending_has (λ l. test_of s i (tag_of l)) langs lang
         (test_of_matches s i (tag_of lang) c.1) c.0),
   );
-  rising = rising_is (λ l. test_of s i (tag_of l)) langs;
+  ascending = ascending_is (λ l. test_of s i (tag_of l)) langs;
 }
 
 one_matched : (s : Scheme) (langs : List (List ℕ)) (i : Item) (a b : List (List ℕ))
     → AreMatched s langs i a → AreMatched s langs i b → a ≡ b
 one_matched s langs i a b h g =
-    one_rising a b h.rising g.rising (λ z c. (g.each z).1 ((h.each z).0 c))
+    one_ascending a b h.ascending g.ascending (λ z c. (g.each z).1 ((h.each z).0 c))
     (λ z c. (h.each z).1 ((g.each z).0 c))
 
 -- ---- the first of two lists
@@ -203,15 +203,15 @@ pub least_first : (P : List (List ℕ) → Type 0) (matched : List (List ℕ)) (
     → Contains matched x → P (pieces x) → AllPairs Ascends matched
     → All (λ m. P (pieces m) → ¬ Ascends m x) matched
     → MatchFirstOf P (map pieces matched) (Some (pieces x))
-least_first P [] x c p rising least = absurd (let low = c.1 in omega arith)
-least_first P (m ∷ matched) x c p rising least = elim (contains_cases m x matched c) [
+least_first P [] x c p ascending least = absurd (let low = c.1 in omega arith)
+least_first P (m ∷ matched) x c p ascending least = elim (contains_cases m x matched c) [
   | inl same ↦
       subst (λ y. MatchFirstOf P (pieces y ∷ map pieces matched) (Some (pieces x))) (sym same)
       (first_here P (pieces x) (map pieces matched) p)
   | inr later ↦ first_later P (pieces m) (map pieces matched) (Some (pieces x))
       (λ q. All-head (λ m. P (pieces m) → ¬ Ascends m x) m matched least q
-      (All-contains (Ascends m) matched x (all_above m matched rising) later))
-      (least_first P matched x later p (rising_tail m matched rising)
+      (All-contains (Ascends m) matched x (all_above m matched ascending) later))
+      (least_first P matched x later p (ascending_tail m matched ascending)
       (All-tail (λ m. P (pieces m) → ¬ Ascends m x) m matched least))
 ]
 
@@ -250,7 +250,8 @@ by_match s items langs i x n least = λ matched h.
     (λ m g o. All-contains (λ l. Fits s items i l → ¬ Ascends l x) langs m least.2 g.0
     (g.1, o.1)) matched (each_matched s langs i matched h) in
     first_append (Open items langs) (candidates_of i) (map pieces matched) (Some (pieces x)) n
-    (least_first (Open items langs) matched x c (open_lang items langs x least.0 least.1.1) h.rising
+    (least_first (Open items langs) matched x c (open_lang items langs x least.0 least.1.1)
+    h.ascending
     low)
 
 -- ---- texts below others

@@ -74,7 +74,7 @@ pub record IsFiltered (scheme : Scheme) (items : List Item) (langs : List (List 
   pub keys : List Key
   pub all_ok : AreKeys scheme items 0 langs all
   pub each_once : IsPermutation all keys
-  pub rising : IsSorted key_cmp keys
+  pub ascending : IsSorted key_cmp keys
   pub picks_are : picks ≡ map pick_of keys
 
 -- a language that an item of positive weight decides, by its place, and that weight

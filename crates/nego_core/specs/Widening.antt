@@ -28,7 +28,7 @@ pub record AreMatched (scheme : Scheme) (langs : List (List ℕ)) (i : Item)
     (matched : List (List ℕ)) : Type 0 where
   pub each : (lang : List ℕ)
       → Contains matched lang ↔ (Contains langs lang × MatchesLang scheme i lang)
-  pub rising : AllPairs Ascends matched
+  pub ascending : AllPairs Ascends matched
 
 -- the widened candidates of an item: those of lookup, and after them the languages that it matches
 abbrev pub widened : Item → List (List ℕ) → List (List (List ℕ))

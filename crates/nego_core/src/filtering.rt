@@ -219,7 +219,7 @@ fn filter_key_of<'a>(
 /// Puts the best language first.
 fn sort_filter_keys(keys: &mut Vec<FilterKey>)
     ensures same { IsPermutation keys.old.items keys.new.items }
-    ensures rising { IsSorted filter_key_cmp keys.new.items }
+    ensures ascending { IsSorted filter_key_cmp keys.new.items }
 {
     keys.sort_unstable()
 }

@@ -208,7 +208,7 @@ fn all_matched<'a>(
 /// Puts the languages in the order of what matches them, and of their bytes.
 fn sort_matched(matched: &mut Vec<MatchedLang>)
     ensures same { IsPermutation matched.old.items matched.new.items }
-    ensures rising { IsSorted matched_cmp matched.new.items }
+    ensures ascending { IsSorted matched_cmp matched.new.items }
 {
     matched.sort_unstable()
 }

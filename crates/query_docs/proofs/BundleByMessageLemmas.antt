@@ -65,11 +65,11 @@ module _ (widening : Widening) (items : List Item) (default : Option (List ℕ))
           (λ e at. ap (λ o. ordering_then o (text_cmp e.0.1 lang)) (id_less e at)) labels
           (All-contains_itself labels)
 
-      still_rising : (found : Option (List ℕ × List (List ℕ)))
+      still_ascending : (found : Option (List ℕ × List (List ℕ)))
           → IsMap key_cmp (labels ++ answered_of next.id found)
-      still_rising None = subst (IsMap key_cmp) (sym (append_nil labels)) bundle.rising
-      still_rising (Some (lang, label)) =
-          IsMap-behind labels (next.id, lang) label bundle.rising (above_labels lang)
+      still_ascending None = subst (IsMap key_cmp) (sym (append_nil labels)) bundle.ascending
+      still_ascending (Some (lang, label)) =
+          IsMap-behind labels (next.id, lang) label bundle.ascending (above_labels lang)
 
       -- With one message more there is the label that its lookup answers, if any.
       pub bundle_more : (reply : Reply)
@@ -82,7 +82,7 @@ module _ (widening : Widening) (items : List Item) (default : Option (List ℕ))
           let own : IsLookupAnswerBy widening all next.id items default reply =
           subst (λ (l : Labels). IsLookedUpIn widening l items default reply)
           (sym (live_own before cells next)) is in record {
-            rising = still_rising (answered reply);
+            ascending = still_ascending (answered reply);
             answered = λ e. (
               λ at. elim (Contains-append_cases labels last e at) [
                 | inl here ↦

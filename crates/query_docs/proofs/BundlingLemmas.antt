@@ -83,7 +83,7 @@ are_live cells messages are =
     (λ i id labels at. sym
     (some_labels (live cells id) labels
     (sym (are.each id)
-    ∙ find_get text_cmp nat_list_cmp_total messages i id labels are.rise at)))
+    ∙ find_get text_cmp nat_list_cmp_total messages i id labels are.ascend at)))
 
 -- ---- answers
 
@@ -197,12 +197,13 @@ module _ (widening : Widening) (cells : Entries) (items : List Item) (default : 
               (below_all key_cmp (id, lang) rest) (is_less id lang m.0 found less) others
         ])
 
-    answers_rise : (messages : List LiveMessage) (labels : List Labelled) → IsMap text_cmp messages
+    answers_ascend : (messages : List LiveMessage) (labels : List Labelled) → IsMap text_cmp
+    messages
         → LooksUp widening items default messages labels → IsMap key_cmp labels
-    answers_rise [] labels m is = subst (λ (ls : List Labelled). IsMap key_cmp ls) (sym is) tt
-    answers_rise (x ∷ ms) labels m (reply, rest, is, more, all) =
+    answers_ascend [] labels m is = subst (λ (ls : List Labelled). IsMap key_cmp ls) (sym is) tt
+    answers_ascend (x ∷ ms) labels m (reply, rest, is, more, all) =
         let others =
-        answers_rise ms rest (second_part (below_all text_cmp x.0 ms) (is_sorted text_cmp ms) m)
+        answers_ascend ms rest (second_part (below_all text_cmp x.0 ms) (is_sorted text_cmp ms) m)
         more in
         subst (λ (ls : List Labelled). IsMap key_cmp ls) (sym all)
         (elim (answered reply) as (λ o. IsMap key_cmp (answered_of x.0 o ++ rest)) [
@@ -246,7 +247,7 @@ module _ (widening : Widening) (cells : Entries) (items : List Item) (default : 
         → IsBundleBy widening cells items default labels
     bundle_of messages labels are all =
         let each = are_live cells messages are in record {
-          rising = answers_rise messages labels are.rise all;
+          ascending = answers_ascend messages labels are.ascend all;
           answered =
               λ e. (
                 λ at.

@@ -88,7 +88,7 @@ module _ (before after : Entries) (changes : Changed) (are : AreChanges before a
   none_where_alike = (
     λ none key. let alike = alike_at before after changes are key in
         alike.0 (ap (find key_cmp key) (no_change changes none)),
-    λ same. ap has_change (same_maps key_cmp key_cmp_total key_cmp_exact changes [] are.rise tt
+    λ same. ap has_change (same_maps key_cmp key_cmp_total key_cmp_exact changes [] are.ascend tt
         (λ key. let alike = alike_at before after changes are key in alike.1 (same key))),
   )
 

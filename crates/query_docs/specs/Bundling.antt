@@ -23,7 +23,7 @@ IsAnswer widening cells items default e =
 -- a label is here exactly where the lookup of its message answers it
 pub record IsBundleBy (widening : Widening) (cells : Entries) (items : List Item)
     (default : Option (List ℕ)) (labels : List Labelled) : Type 0 where
-  pub rising : IsMap key_cmp labels
+  pub ascending : IsMap key_cmp labels
   pub answered : (e : Labelled) → Contains labels e ↔ IsAnswer widening cells items default e
 
 -- the same by RFC 4647 section 3.4

@@ -19,7 +19,7 @@ use row_docs::write_texts;
 use site_docs::site_at;
 use std::alloc::{AllocError, Global};
 
-/// `changes N`, then N lines in rising order of key, and whether there is a change: one line for
+/// `changes N`, then N lines in ascending order of key, and whether there is a change: one line for
 /// each key whose cells in the two sites are not equal, or that one of them lacks.
 ///
 /// A line is the compact text of `[ID,LANGUAGE,BEFORE,AFTER]`. BEFORE and AFTER are

@@ -16,9 +16,9 @@ use Rattle.json_docs.specs.Parts.{list_of, narrowed, texts_in}
 use Rattle.row_docs.specs.Entries.{cells_values, entry_value, stamps_values, stamped_value}
 use Rattle.row_docs.specs.Entries.{row_of}
 use Rattle.row_docs.specs.Fields.{IsAfter, key_of, order_check}
-use Rattle.row_docs.specs.Rising.{AreEntries, cell_checks, cell_row, entry_in, last_key}
-use Rattle.row_docs.specs.Rising.{own_cell_checks, own_stamp_checks, stamp_checks, stamp_row}
-use Rattle.row_docs.specs.Rising.{stamped_in}
+use Rattle.row_docs.specs.Ascending.{AreEntries, cell_checks, cell_row, entry_in, last_key}
+use Rattle.row_docs.specs.Ascending.{own_cell_checks, own_stamp_checks, stamp_checks, stamp_row}
+use Rattle.row_docs.specs.Ascending.{stamped_in}
 use Rattle.row_docs.specs.ShapesRows.{cell_in, label_in, stamp_in}
 use Rattle.row_docs.specs.EntriesValid.{AreKeptCells, AreKeptStamps, IsKeptCell, IsKeptStamp}
 use Rattle.row_docs.specs.EntriesValues.{label_value}
@@ -26,7 +26,7 @@ use Rattle.row_docs.specs.declared.version.Version.TheVariants.{Two}
 use Rattle.json_docs.proofs.FaultChecksLemmas.{AllPass-both}
 use Rattle.cell_core.proofs.Basics.{first_part, less_than, second_part}
 use Rattle.row_docs.proofs.EntriesLowerLemmas.{lower-IsLang, spells-IsLang}
-use Rattle.row_docs.proofs.RisingLemmas.{last_key-push}
+use Rattle.row_docs.proofs.AscendingLemmas.{last_key-push}
 
 -- the list of the items of a list is the list
 pub list_of-items_of : (ds : List Data) → list_of (items_of ds) ≡ ds

@@ -6,8 +6,8 @@ pub mod HeadersLemmas
 pub mod OneReading
 pub mod PlainTextsLemmas
 pub mod ReadersLemmas
-pub mod RisingKeys
-pub mod RisingLemmas
+pub mod AscendingKeys
+pub mod AscendingLemmas
 pub mod ShapesMigrationLemmas
 pub mod ShapesRowsLemmas
 pub mod TestedHeaderLemmas

@@ -5,7 +5,7 @@ use Rattle.serde_json.specs.Data.{Data}
 use Rattle.cell_core.specs.Entry.{EntryKey}
 use Rattle.json_docs.specs.FaultChecks.{AllPass, AreJson, Check}
 use Rattle.row_docs.specs.Reading.{Reads}
-use Rattle.row_docs.specs.Rising.{AreEntries}
+use Rattle.row_docs.specs.Ascending.{AreEntries}
 use Rattle.catalogue.proofs.Basics.{some_same as inside}
 
 -- lists whose values are the same are one

@@ -14,7 +14,7 @@ use Rattle.serde_json.specs.Data.{Data}
 use Rattle.serde_json.specs.Find.{as_str}
 use Rattle.json_docs.specs.Parts.{items_in, u32_in, u64_in}
 use Rattle.row_docs.specs.Fields.{entry_of, key_of, stamp_of, stamped_of}
-use Rattle.row_docs.specs.Rising.{entry_in, stamped_in}
+use Rattle.row_docs.specs.Ascending.{entry_in, stamped_in}
 use Rattle.row_docs.specs.ShapesRows.{cell_in, cell_of, label_in, parts_in, stamp_in}
 use Rattle.row_docs.specs.ShapesRows.{stamp_of as stamp_row_of}
 use Rattle.row_docs.specs.EntriesValues.{Row}

@@ -9,7 +9,7 @@ pub mod Headers
 pub mod Kinds
 pub mod PlainTexts
 pub mod Reading
-pub mod Rising
+pub mod Ascending
 pub mod ShapesMigration
 pub mod ShapesRows
 pub mod ShapesRowsSeen

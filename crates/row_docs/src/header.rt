@@ -20,11 +20,11 @@ use crate::kind::{Kind, Member};
 use crate::version::Version;
 use cell_core::SiteName;
 use json::{Reader, Token, Value};
-use json_docs::{DocCause, MOST_DEPTH, is_scalar, next_name, next_value, text_of, u64_of};
+use json_docs::{DocCause, MAX_DEPTH, is_scalar, next_name, next_value, text_of, u64_of};
 use std::alloc::Global;
 
 /// How deep a member of the outermost object nests at most.
-const MEMBER_DEPTH: usize = MOST_DEPTH - 1;
+const MEMBER_DEPTH: usize = MAX_DEPTH - 1;
 
 /// What a document is about: the value of `site`, `to`, `owner` or `sites`.
 #[derive(Clone, Copy, Debug)]

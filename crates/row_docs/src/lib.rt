@@ -13,24 +13,24 @@
 #![tactic(auto)]
 
 mod arrays;
+mod ascending;
 mod entries;
 mod fields;
 mod header;
 mod kind;
 pub mod laws;
 pub mod plain_texts;
-mod rising;
 mod shapes;
 mod tested_header;
 mod version;
 mod writing;
 
 pub use arrays::Rows;
+pub use ascending::entry_of_row;
 pub use entries::{write_entry, write_stamped};
 pub use fields::{CellEntry, StampEntry, cell_entry, id_of, language_of, of_cell, stamp_entry};
 pub use header::Subject;
 pub use kind::Kind;
-pub use rising::entry_of_row;
 pub use shapes::{CellRow, Row, SiteText, cell_of};
 pub use tested_header::{TestedHeader, read_header};
 pub use version::Version;

@@ -19,7 +19,7 @@ use std::alloc::Global;
 use std::simd::prelude::*;
 
 /// The greatest number that another digit leaves within 64 bits.
-const MOST_TENTH: u64 = (u64::MAX - 9) / 10;
+const MAX_TENTH: u64 = (u64::MAX - 9) / 10;
 
 /// How many bytes are tested at once.
 const BLOCK: usize = 16;
@@ -200,7 +200,7 @@ fn leading_number(bytes: &[u8]) -> Option<(u64, usize)>
         return Some((number, len));
     }
     while is_digit_at(bytes, len) {
-        if number > MOST_TENTH {
+        if number > MAX_TENTH {
             return None;
         }
         number = number * 10 + u64::from(bytes[len] - b'0');

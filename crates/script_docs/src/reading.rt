@@ -18,7 +18,7 @@ use row_docs::{Kind, Subject, read_header};
 use std::alloc::Global;
 
 /// The most sites of a script.
-const MOST_SITES: u64 = 1024;
+const MAX_SITES: u64 = 1024;
 
 /// The script of a document of version 1 or 2. In version 1 each site number of a stamp is read as
 /// its padded name; the sites of steps are places in both.
@@ -92,7 +92,7 @@ fn count_of(number: u64) -> Result<usize, DocCause>
         (λ sites. IsSiteCount sites × (count_of number ≡ Some sites))
         (λ e. (count_of number ≡ None) × (e ≡ Shape spot.Document)) }
 {
-    if number >= 1 && number <= MOST_SITES {
+    if number >= 1 && number <= MAX_SITES {
         Ok(number as usize)
     } else {
         Err(DocCause::Shape {

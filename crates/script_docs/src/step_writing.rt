@@ -25,7 +25,7 @@ use row_docs::write_entry;
 use std::alloc::{AllocError, Global};
 
 /// The most that a document has as the number of a site, a told summary or a post.
-const MOST_NUMBER: usize = 4_294_967_295;
+const MAX_NUMBER: usize = 4_294_967_295;
 
 /// Adds the row of the step at this place.
 ///
@@ -199,7 +199,7 @@ fn number_of(place: usize, number: usize) -> Result<u64, DocCause>
     ensures err { IfErr result
         (λ cause. (¬ (FitsMember number)) × (cause ≡ Shape (spot.Row place))) }
 {
-    if number <= MOST_NUMBER {
+    if number <= MAX_NUMBER {
         Ok(number as u64)
     } else {
         Err(no_row(place))

@@ -7,9 +7,9 @@ use Rattle.cell_core.specs.Keyed.{IsMap}
 use Rattle.cell_core.specs.Entry.{EntryKey, key_cmp}
 use Rattle.catalogue.specs.Entries.{Entries, Entry, IsAboveAll}
 use Rattle.row_docs.specs.Fields.{IsAfter}
-use Rattle.row_docs.specs.Rising.{entry_in}
+use Rattle.row_docs.specs.Ascending.{entry_in}
 use Rattle.row_docs.specs.declared.version.Version.{Version}
-use Rattle.row_docs.proofs.RisingLemmas.{MakesEntries-push, after_last}
+use Rattle.row_docs.proofs.AscendingLemmas.{MakesEntries-push, after_last}
 use Rattle.site_docs.specs.ShownRows.{HoldsShown, key_of}
 use Rattle.site_docs.specs.declared.document.shown_rows.ShownRows.{ShownRows}
 

@@ -17,7 +17,7 @@ use Rattle.row_docs.specs.Kinds.{names_of}
 use Rattle.row_docs.specs.Headers.{HasJust, header_checks, rows_in, subject_data, version_of}
 use Rattle.site_docs.specs.SiteDocuments.{subject_checks}
 use Rattle.site_docs.specs.Reading.{ReadsAsDelta, ReadsAsSite, ReadsAsSummary}
-use Rattle.row_docs.specs.Rising.{cell_checks, stamp_checks}
+use Rattle.row_docs.specs.Ascending.{cell_checks, stamp_checks}
 use Rattle.row_docs.specs.EntriesValid.{AreKeptCells, AreKeptStamps}
 use Rattle.site_docs.specs.DocumentsValues.{delta_value, site_value, summary_value}
 use Rattle.row_docs.specs.declared.kind.Kind.{Kind}

@@ -3,7 +3,7 @@ use Rattle.std.specs.Prelude.{◌≡◌, ◌-◌, List, IfSome, length, option_m
 use Rattle.serde_json.specs.Data.{Data}
 use Rattle.cell_core.specs.Entry.{EntryKey}
 use Rattle.catalogue.specs.Entries.{Entries}
-use Rattle.row_docs.specs.Rising.{MakesEntries, entry_in}
+use Rattle.row_docs.specs.Ascending.{MakesEntries, entry_in}
 use Rattle.row_docs.specs.declared.version.Version.{Version}
 use Rattle.site_docs.specs.declared.document.shown_rows.RowKey.{RowKey}
 use Rattle.site_docs.specs.declared.document.shown_rows.ShownRows.{ShownRows}

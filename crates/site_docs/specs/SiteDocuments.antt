@@ -8,7 +8,7 @@ use Rattle.cata_core.specs.Summary.{SummaryState}
 use Rattle.json_docs.specs.FaultChecks.{Check, check, rows_checks}
 use Rattle.json_docs.specs.declared.fault.DocCause.TheVariants.{Shape, SiteName}
 use Rattle.row_docs.specs.Headers.{header_checks, rows_in, subject_data, version_of}
-use Rattle.row_docs.specs.Rising.{AreEntries, cell_checks, entry_in, stamp_checks, stamped_in}
+use Rattle.row_docs.specs.Ascending.{AreEntries, cell_checks, entry_in, stamp_checks, stamped_in}
 use Rattle.row_docs.specs.ShapesRows.{site_in}
 use Rattle.row_docs.specs.declared.kind.Kind.{Kind}
 use Rattle.row_docs.specs.declared.kind.Kind.TheVariants.{Delta, Site, Summary}

@@ -159,7 +159,7 @@ const ROWS: &[(&str, &str, &str, &str, &str)] = &[
         "m en 9 0000000001 0 -",
     ),
     (
-        "keys rise by id then language",
+        "keys ascend by id then language",
         "edits",
         "n en 1 1 0 a; m fr 1 1 0 b; m @none 1 1 0 c; m de 1 1 0 -; M en 1 1 0 d",
         "",

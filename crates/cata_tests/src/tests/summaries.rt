@@ -79,7 +79,7 @@ fn equalities(rt: HostRuntime) -> Result<(), Fail> {
 fn keys(rt: HostRuntime) -> Result<(), Fail> {
     let alloc = rt.alloc();
     gives_in(
-        "the rising order",
+        "the ascending order",
         listed_of(
             alloc,
             "n en 7 2 0 a; m fr 4 1 0 -; m en 5 1 3 a; m @none 6 1 0 b",

@@ -7,7 +7,7 @@ ghost use Rattle.cell_core.specs.Iter.{entries_left};
 
 use std::fmt;
 
-/// The entries of a map that are left, in rising order of the keys.
+/// The entries of a map that are left, in ascending order of the keys.
 #[derive(Clone, Copy)]
 pub struct Iter<'a, K, J> {
     pub(crate) rest: &'a [(K, J)],

@@ -83,7 +83,7 @@ fn assert_key_at(rt: &impl Abort, map: &Numbers, place: usize, value: Option<u64
 }
 
 #[test]
-fn rising_keys(rt: HostRuntime) {
+fn ascending_keys(rt: HostRuntime) {
     let map = every(&rt, rt.alloc(), 0, 1, 1000, 1);
     assert_every(&rt, &map, 0, 1, 1000);
     assert_time(&rt, &map, 1000, None);

@@ -19,9 +19,9 @@ use map_docs::{LangMaps, langmaps_of_document, take_langmaps};
 use site_docs::{WrittenRows, site_at, write_site};
 use std::alloc::Global;
 
-/// The document of the site after each label of the language maps was put, in rising order of key,
-/// at the time `now`: each with the next stamp of the site. A label that the site has already is
-/// put again and gets a new stamp; no other cell changes.
+/// The document of the site after each label of the language maps was put, in ascending order of
+/// key, at the time `now`: each with the next stamp of the site. A label that the site has already
+/// is put again and gets a new stamp; no other cell changes.
 ///
 /// Refusals, in their order: a reader's with document 1, a reader's with document 2, then 14 where
 /// there is no next stamp for a label, which refuses the whole. Out of memory (26) may come before.
@@ -40,8 +40,8 @@ pub fn import_document(
     }
 }
 
-/// Puts each label, in rising order of key, at this time: with the next stamp of the site after the
-/// greatest that it then has. A label that the site has already is put again.
+/// Puts each label, in ascending order of key, at this time: with the next stamp of the site after
+/// the greatest that it then has. A label that the site has already is put again.
 ///
 /// Refused by `ClockSpent` (14) where there is no next stamp for a label, and by `NoMemory` (26);
 /// the labels before that one are then put, and no other cell is changed.

@@ -136,7 +136,7 @@ pub fn read_delta_until(
 }
 
 /// Of fewer than 2^64 cells ([`Catalogue::len`]) the first row whose time is greater than
-/// `not_after`, counted from 0 in rising order of key; none where no time is. The rows of a
+/// `not_after`, counted from 0 in ascending order of key; none where no time is. The rows of a
 /// document are counted so.
 pub fn first_row_ahead(cells: &Catalogue, not_after: u64) -> Option<usize>
     ensures { length cells.now < 2 ^ 64

@@ -32,7 +32,7 @@ use site_docs::{LabelRef, WrittenRows, show_document, site_at, write_site};
 use std::alloc::Global;
 
 /// The document of the site after what an editor changed in language maps: from `old`, as they were
-/// before, to `new`, as they are now. The changes are made in rising order of key at the time
+/// before, to `new`, as they are now. The changes are made in ascending order of key at the time
 /// `now`, each with the next stamp of the site; no other cell changes.
 ///
 /// A label that was added or is another now is put, unless the site has it already. A label that is
@@ -62,8 +62,8 @@ pub fn update_document(
     }
 }
 
-/// Makes the changes from the old labels to the new ones, in rising order of key at the time `now`,
-/// as [`update_document`] makes them in the document of a site.
+/// Makes the changes from the old labels to the new ones, in ascending order of key at the time
+/// `now`, as [`update_document`] makes them in the document of a site.
 ///
 /// Refused by `ClockSpent` (14) where there is no next stamp for a change, and by `NoMemory` (26);
 /// the changes before that one are then made, and no other.
@@ -140,7 +140,7 @@ fn with_changes(
     mut stamped: StampedRows<'_>,
     changes: &[KeyChange<'_>],
 ) -> Option<Doc>
-    requires rising { IsMap key_cmp (changes_of changes.now) }
+    requires ascending { IsMap key_cmp (changes_of changes.now) }
     requires holds { (now : ℕ) × (name : List ℕ) × (last : Option Stamp)
         × HoldsStamped now name last stamped [] }
     ensures { IfSome result (λ doc. (now : ℕ) (name : List ℕ) (own : Entries)

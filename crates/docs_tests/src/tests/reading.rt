@@ -1,6 +1,6 @@
 //! Reading a source to its end, and what stops it.
 
-use docs_core::{DocCause, DocFault, Input, MOST_BYTES, Source, read_all};
+use docs_core::{DocCause, DocFault, Input, MAX_BYTES, Source, read_all};
 use std::alloc::Global;
 use std::io;
 use std::io::Read;
@@ -74,7 +74,7 @@ struct Meter {
 impl Read for Meter {
     fn read(&mut self, buf: &mut [u8]) -> io::Result<usize> {
         self.reads = self.reads.saturating_add(1);
-        if self.given.saturating_add(buf.len()) > MOST_BYTES + 1 {
+        if self.given.saturating_add(buf.len()) > MAX_BYTES + 1 {
             self.overasked = true;
         }
         let count = buf.len().min(self.left);
@@ -97,8 +97,8 @@ fn is_metered(alloc: Global, left: usize) -> bool {
     let read = read_all(alloc, &mut source);
     let has_failed = source.failed();
     let is_read = match read {
-        Ok(doc) => doc.len() == left && left <= MOST_BYTES,
-        Err(fault) => fault == of_no_document(DocCause::TooLarge) && left > MOST_BYTES,
+        Ok(doc) => doc.len() == left && left <= MAX_BYTES,
+        Err(fault) => fault == of_no_document(DocCause::TooLarge) && left > MAX_BYTES,
     };
     // 65,536 bytes at once, 1,024 times, and one byte that is too many or not there.
     is_read && !has_failed && !meter.overasked && meter.reads <= 1025
@@ -106,11 +106,11 @@ fn is_metered(alloc: Global, left: usize) -> bool {
 
 #[test]
 fn the_limit_itself_is_read(rt: HostRuntime) {
-    assert!(rt; is_metered(rt.alloc(), MOST_BYTES));
+    assert!(rt; is_metered(rt.alloc(), MAX_BYTES));
 }
 
 #[test]
 fn one_byte_more_is_refused(rt: HostRuntime) {
-    assert!(rt; is_metered(rt.alloc(), MOST_BYTES + 1));
+    assert!(rt; is_metered(rt.alloc(), MAX_BYTES + 1));
     assert!(rt; is_metered(rt.alloc(), usize::MAX));
 }

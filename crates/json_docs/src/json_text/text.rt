@@ -13,7 +13,7 @@ use crate::json_text::scanning::has_numbers_in_range;
 use json::{Reader, Scratch};
 
 /// How deep a text nests at most, as `serde_json` reads it.
-pub const MOST_DEPTH: usize = 127;
+pub const MAX_DEPTH: usize = 127;
 
 /// The text, where the bytes are UTF-8 (RFC 3629), or else refusal 18.
 pub fn text_in(bytes: &[u8]) -> Result<&str, DocCause>
@@ -52,7 +52,7 @@ pub fn check_value(text: &str, scratch: &mut Scratch) -> Result<(), DocCause>
     let Ok(mut reader) = Reader::new(text, scratch) else {
         return Err(DocCause::NoMemory);
     };
-    match reader.skip_value(MOST_DEPTH) {
+    match reader.skip_value(MAX_DEPTH) {
         Ok(()) => {}
         Err(_) => return Err(DocCause::NotJson),
     }

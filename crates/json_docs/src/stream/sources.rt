@@ -12,7 +12,7 @@ use std::io;
 use std::io::Read;
 
 /// The most bytes that [`read_all`] accepts.
-pub const MOST_BYTES: usize = 67_108_864;
+pub const MAX_BYTES: usize = 67_108_864;
 
 /// How many bytes `read_all` asks for at once.
 const READ_BYTES: usize = 65_536;
@@ -87,9 +87,9 @@ impl<R: Read> Source for Input<R> {
 
 /// All bytes of a source that did not fail yet, up to its end.
 ///
-/// Refusals, as they come: 23 where the source gave more than [`MOST_BYTES`] bytes, 24 where a read
+/// Refusals, as they come: 23 where the source gave more than [`MAX_BYTES`] bytes, 24 where a read
 /// gave an error, 26 where memory is refused. The source has failed with 24 and with no other
-/// answer, and no read is given more room than what is left of `MOST_BYTES + 1`.
+/// answer, and no read is given more room than what is left of `MAX_BYTES + 1`.
 pub fn read_all<S: Source>(alloc: Global, reader: &mut S) -> Result<Doc, DocFault>
     requires { S.failed reader.old ≡ false }
     ensures { MatchResult result (ReadsWhole S.failed S.remaining reader.old reader.new)
@@ -97,7 +97,7 @@ pub fn read_all<S: Source>(alloc: Global, reader: &mut S) -> Result<Doc, DocFaul
 {
     let mut buffer = Vec::new(alloc);
     let mut filled = 0;
-    while filled <= MOST_BYTES {
+    while filled <= MAX_BYTES {
         make_room(&mut buffer, filled)?;
         let Ok(count) = read_after(reader, &mut buffer, filled) else {
             return Err(DocFault::of_no_document(DocCause::ReadFault));
@@ -130,18 +130,18 @@ fn read_after<S: Source>(reader: &mut S, buffer: &mut Vec<u8>, filled: usize) ->
 /// callgrind counts each byte, so they are written in pieces.)
 fn make_room(buffer: &mut Vec<u8>, filled: usize) -> Result<(), AllocError>
     requires within { filled ≤ vec_len buffer.old }
-    requires below { filled ≤ MOST_BYTES }
-    requires limit { vec_len buffer.old ≤ MOST_BYTES + 1 }
+    requires below { filled ≤ MAX_BYTES }
+    requires limit { vec_len buffer.old ≤ MAX_BYTES + 1 }
     ensures ok { OnOk result (filled < vec_len buffer.new) }
-    ensures limit { vec_len buffer.new ≤ MOST_BYTES + 1 }
+    ensures limit { vec_len buffer.new ≤ MAX_BYTES + 1 }
     ensures front { take filled buffer.new.items ≡ take filled buffer.old.items }
 {
     if filled < buffer.len() {
         return Ok(());
     }
-    let wanted = (filled + READ_BYTES).min(MOST_BYTES + 1);
+    let wanted = (filled + READ_BYTES).min(MAX_BYTES + 1);
     if wanted > buffer.capacity() {
-        buffer.reserve_exact((2 * filled).clamp(wanted, MOST_BYTES + 1) - filled)?;
+        buffer.reserve_exact((2 * filled).clamp(wanted, MAX_BYTES + 1) - filled)?;
     }
     while buffer.len() < wanted {
         let len = (buffer.len() + ZERO_BYTES).min(wanted);

@@ -5,7 +5,7 @@ ghost use Rattle.json_docs.specs.FaultChecks.{AllPass, AreJson, FirstFails, IsRe
 ghost use Rattle.json_docs.specs.declared.fault.DocCause.TheVariants.{NoMemory};
 ghost use Rattle.catalogue.specs.Entries.{Entries};
 ghost use Rattle.row_docs.specs.Headers.{IsSubject, rows_in, version_of};
-ghost use Rattle.row_docs.specs.Rising.{MakesEntries, cell_checks, entry_in};
+ghost use Rattle.row_docs.specs.Ascending.{MakesEntries, cell_checks, entry_in};
 ghost use Rattle.site_docs.specs.Reading.{ReadsAsDelta, ReadsAsSite, ReadsAsSummary, RefusesDelta};
 ghost use Rattle.site_docs.specs.Reading.{RefusesSite, RefusesSummary};
 ghost use Rattle.row_docs.specs.ShapesRows.{site_in};

@@ -13,7 +13,7 @@ use cata_core::{Catalogue, Delta, Site, Summary};
 use json_docs::Doc;
 use std::alloc::{AllocError, Global};
 
-/// The document of a site, version 2: its cells in rising order of key, deletions among them. It
+/// The document of a site, version 2: its cells in ascending order of key, deletions among them. It
 /// reads as this site.
 ///
 /// Its one refusal is out of memory (26).
@@ -36,7 +36,7 @@ pub fn write_delta(alloc: Global, delta: &Delta) -> Result<Doc, AllocError>
     draft.close_delta(alloc, delta.addressee())
 }
 
-/// The document of a summary, version 2: its stamps in rising order of key. It reads as this
+/// The document of a summary, version 2: its stamps in ascending order of key. It reads as this
 /// summary.
 ///
 /// Its one refusal is out of memory (26).

@@ -11,7 +11,7 @@ use std::alloc::Global;
 use std::marker::Model;
 
 /// The most languages that are kept, so that a message of very many takes no more memory.
-const MOST_LANGUAGES: usize = 64;
+const MAX_LANGUAGES: usize = 64;
 
 /// The languages of a message in the order in which they came, and after them what is left of those
 /// of the message before, some at most.
@@ -86,7 +86,7 @@ fn place_after(place: usize) -> usize
     ensures near { result ≤ place + 1 }
     ensures kept { place < 64 → result < 64 }
 {
-    if place < MOST_LANGUAGES - 1 {
+    if place < MAX_LANGUAGES - 1 {
         place + 1
     } else {
         place

@@ -323,7 +323,7 @@ impl<'t> Spelled<'t> {
             (IsAfter (Some (key_in self.old.front)) (key_in self.new.front)) }
     {
         let ids = order_of(self.front.id.as_str(), front.id.as_str());
-        if !rises(ids, self.front.language, front.language) {
+        if !ascends(ids, self.front.language, front.language) {
             return Err(Unread::NotWritten);
         }
         set_id(alloc, &mut self.id, ids, front.id.as_str())?;
@@ -383,7 +383,7 @@ fn order_of(last: &str, text: &str) -> Ordering
 }
 
 /// Whether a key is greater than the last one, where the ids are ordered so.
-fn rises(ids: Ordering, last: &str, language: &str) -> bool
+fn ascends(ids: Ordering, last: &str, language: &str) -> bool
     ensures { IsTrue result ↔ (ordering_then ids (text_cmp last.now language.now) ≡ Less) }
 {
     match ids {

@@ -2,7 +2,7 @@ use Rattle.std.proofs.Common.{◌≡◌, List, ℕ, get_or, subst, sym, ◌∙�
 use Rattle.lang_core.specs.Text.{pieces}
 use Rattle.lang_core.specs.Matching.{Extended}
 use Rattle.list_core.proofs.Basics.{stands_at, same_default, false_true}
-use Rattle.list_core.proofs.ChainsLemmas.{asked_better, asked_passed, asked_whole}
+use Rattle.list_core.proofs.BucketsLemmas.{asked_better, asked_passed, asked_whole}
 use Rattle.list_core.proofs.deciding.best_in.Goals as goal
 use Rattle.list_core.proofs.deciding.best_in.Goals.{then-is_above+then-is_matched_by}
 use Rattle.list_core.proofs.deciding.best_in.Goals.{else-is_above}
@@ -17,9 +17,9 @@ loop-place-preserved c = λ numbers h.
     stands_at c.args.items.now c.loop-place.place c.index-items-place.result
     c.loop-place-test.true c.index-items-place.is in
     let next : c.index-place-in-loop-place.result.now
-    ≡ get_or c.args.chains.now.next.items c.loop-place.place 0 =
+    ≡ get_or c.args.buckets.now.next.items c.loop-place.place 0 =
     c.index-place-in-loop-place.ensures
-    ∙ same_default c.args.chains.now.next.items c.loop-place.place
+    ∙ same_default c.args.buckets.now.next.items c.loop-place.place
     c.index-place-in-loop-place.result.now 0
     (let e = h.links_ok.each in let m = h.numbers_ok.as_many in let low =
     c.loop-place-test.true in omega arith) in
@@ -27,7 +27,7 @@ loop-place-preserved c = λ numbers h.
       | then-is_above+then-is_matched_by w ↦
           rw w.best-is
           (asked_better (λ i. Extended (pieces i.range) (pieces c.args.tag.now)) c.args.items.now
-          numbers c.args.chains.now c.args.chain c.loop-place.place
+          numbers c.args.buckets.now c.args.bucket c.loop-place.place
           c.index-place-in-loop-place.result.now c.specificity-specificity.result
           c.index-items-place.result c.loop-place.best h c.loop-place-test.true next stands
           c.specificity-specificity.ensures
@@ -37,7 +37,7 @@ loop-place-preserved c = λ numbers h.
       | else-is_above w ↦
           rw w.best-is
           (asked_passed (λ i. Extended (pieces i.range) (pieces c.args.tag.now)) c.args.items.now
-          numbers c.args.chains.now c.args.chain c.loop-place.place
+          numbers c.args.buckets.now c.args.bucket c.loop-place.place
           c.index-place-in-loop-place.result.now c.index-items-place.result c.loop-place.best h
           c.loop-place-test.true next stands
           (λ f. elim w.else-is_above.branch [
@@ -59,5 +59,5 @@ pub returns : goal.returns
 returns c =
     λ numbers h.
     asked_whole (λ i. Extended (pieces i.range) (pieces c.args.tag.now)) c.args.items.now numbers
-    c.args.chain c.loop-place.place c.loop-place.best c.loop-place-test.false
+    c.args.bucket c.loop-place.place c.loop-place.best c.loop-place-test.false
     (c.loop-place.invariant numbers h)

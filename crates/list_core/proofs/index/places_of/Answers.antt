@@ -7,5 +7,5 @@ pub returns : goal.returns
 returns c =
     if_ok _ (λ places. IsRangeIndex c.args.items.now places.items) c.places_by_key.result
     (λ places p. index_made c.args.items.now _ _ places.items c.in_ok-keys.ensures
-    c.sort_range_keys.ensures.same c.sort_range_keys.ensures.rising
+    c.sort_range_keys.ensures.same c.sort_range_keys.ensures.ascending
     (rw c.deref.ensures.value at p)) c.places_by_key.ensures

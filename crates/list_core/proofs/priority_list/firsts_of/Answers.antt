@@ -2,8 +2,8 @@ use Rattle.list_core.specs.FirstTried.{AreFirstsIfAny, AreFirstTried}
 use Rattle.list_core.proofs.Basics.{if_ok}
 use Rattle.list_core.proofs.priority_list.firsts_of.Goals as goal
 
-pub returns-in-Some-Buckets : goal.returns-in-Some-Buckets
-returns-in-Some-Buckets c =
+pub returns-in-Some-Texts : goal.returns-in-Some-Texts
+returns-in-Some-Texts c =
     let items = c.args.items.now in
     let order = c.args.order.now in
     if_ok (λ firsts. AreFirstTried items order firsts.items)

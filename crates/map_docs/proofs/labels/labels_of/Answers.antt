@@ -16,13 +16,13 @@ pub loop-name-init : goal.loop-name-init
 loop-name-init c =
     let left = into_iter_items c.into_iter-name-iterator.result in
     let gives = c.into_iter-name-iterator.ensures.into_iter_gives in
-    let rising = subst AreSorted (sym gives.0) c.requires in (
+    let ascending = subst AreSorted (sym gives.0) c.requires in (
       [],
       sym gives.0,
       refl,
       tt,
       subst (λ (labels : List Labelled). HoldsRows [] labels left) (sym c.in_ok-maps.ensures)
-          (HoldsRows-none left rising),
+          (HoldsRows-none left ascending),
     )
 
 pub add_row-requires-clause-lesser : goal.add_row-requires-clause-lesser

@@ -24,5 +24,5 @@ returns g c =
     rw c.new-2.ensures
     (filtered c.args.scheme c.args.list.now (map g.L.AsLang.text c.args.langs.now)
     c.in_ok-keys.keys.items c.sort_filter_keys.new.keys.items c.in_ok-picks.picks.items
-    c.in_ok-keys.ensures c.sort_filter_keys.ensures.same c.sort_filter_keys.ensures.rising
+    c.in_ok-keys.ensures c.sort_filter_keys.ensures.same c.sort_filter_keys.ensures.ascending
     (rw c.deref.ensures.value at c.in_ok-picks.ensures))

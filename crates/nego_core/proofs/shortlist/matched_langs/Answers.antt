@@ -7,5 +7,5 @@ returns-in_ok-matched-in-By c =
     rw c.in-By.is
     (matched_sorted c.in-By.scheme c.args.list.now (texts_of c.args.langs.now)
     c.in_ok-matched-in-By.matched.items c.sort_matched.new.matched.items
-    c.sort_matched.ensures.same c.sort_matched.ensures.rising
+    c.sort_matched.ensures.same c.sort_matched.ensures.ascending
     (rw (c.new-in-By.ensures.list, c.new-in-By.ensures.scheme) at c.in_ok-matched-in-By.ensures))

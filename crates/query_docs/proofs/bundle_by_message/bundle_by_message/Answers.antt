@@ -15,5 +15,5 @@ returns c =
       shown.1,
       subst (λ (t : Bundle). IsBundleBy t.widening cells t.list.now (default_of t) bundle.labels)
           c.new-start.ensures.sink bundle.labels_are,
-      c.in_ok-answer.ensures bundle.labels bundle.written bundle.labels_are.rising,
+      c.in_ok-answer.ensures bundle.labels bundle.written bundle.labels_are.ascending,
     )

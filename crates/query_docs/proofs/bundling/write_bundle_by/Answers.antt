@@ -33,7 +33,7 @@ returns c =
     let last = bundling_last c.args.widening c.args.catalogue.now c.args.list.now default
     c.loop-message.draft b in
     IfOk-weaker c.close.result _ _
-    (λ _ closed. (last.0, last.1, closed last.0 last.2 last.1.rising)) c.close.ensures
+    (λ _ closed. (last.0, last.1, closed last.0 last.2 last.1.ascending)) c.close.ensures
 
 -- The draft has the labels of the messages so far: this one's lookup found a label, by a shortlist
 -- of languages that have all of its own, and that label was added.

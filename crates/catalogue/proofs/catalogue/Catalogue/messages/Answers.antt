@@ -5,7 +5,7 @@ use Rattle.catalogue.specs.Entries.{Entries}
 use Rattle.catalogue.specs.Live.{live}
 use Rattle.catalogue.specs.LiveMessages.{LiveMessage, AreMessages}
 use Rattle.catalogue.specs.Messages.{live_messages}
-use Rattle.catalogue.proofs.MessagesLemmas.{are_messages, languages_rise}
+use Rattle.catalogue.proofs.MessagesLemmas.{are_messages, languages_ascend}
 use Rattle.catalogue.proofs.catalogue.Catalogue.messages.Goals as goal
 
 pub returns-clause-messages : goal.returns-clause-messages
@@ -18,4 +18,4 @@ returns-clause-messages c =
 pub returns-clause-languages : goal.returns-clause-languages
 returns-clause-languages c =
     subst (λ (cells : Entries). (id : List ℕ) → IsMap text_cmp (live cells id)) c.map.ensures.flat
-    (languages_rise c.map.result.now c.map.ensures.nested)
+    (languages_ascend c.map.result.now c.map.ensures.nested)

@@ -8,7 +8,7 @@ use Rattle.cell_core.proofs.site_name.SiteName.new.Goals as goal
 is_name : (c : goal.After-zero_padded) → IsSiteName c.args.text.now
 is_name c = subst IsSiteName c.as_bytes-bytes.ensures.value (record {
   some = grind (arith, nat_tests, c.is_empty.ensures, c.if-is_empty.false);
-  most = c.if-bytes-gt-MOST_BYTES.false;
+  most = c.if-bytes-gt-MAX_BYTES.false;
   bytes = c.are_site_bytes.ensures.0 c.if-not-are_site_bytes.false;
 })
 

@@ -24,8 +24,8 @@ loop-next-preserved c =
     let first = c.in-Some.ensures.first in
     let olds = labels_of c.loop-next.olds.now in
     let news = labels_of c.loop-next.news.now in record {
-      old_map = first.old_head.rises;
-      new_map = first.new_head.rises;
+      old_map = first.old_head.ascends;
+      new_map = first.new_head.ascends;
       found = λ all all_new cells before.
           let so = inv.found all all_new cells before in
           found_next r olds news (labels_of c.in-Some.old_rest.now)

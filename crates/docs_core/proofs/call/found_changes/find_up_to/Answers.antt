@@ -37,8 +37,8 @@ loop-next-preserved-in_ok-note-in-Less c =
     let e = entry_of c.args.cell.now in
     let r = c.in-Some.next in
     let first = c.in-Some.ensures.first in record {
-      old_map = first.old_head.rises;
-      new_map = first.new_head.rises;
+      old_map = first.old_head.ascends;
+      new_map = first.new_head.ascends;
       found = λ all all_new seen above before.
           let so = inv.found all all_new seen above before in
           found_next r (labels_of c.loop-next.olds.now) (labels_of c.loop-next.news.now)
@@ -57,8 +57,8 @@ loop-next-preserved c =
     let e = entry_of c.args.cell.now in
     let r = c.in-Some.next in
     let first = c.in-Some.ensures.first in record {
-      old_map = first.old_head.rises;
-      new_map = first.new_head.rises;
+      old_map = first.old_head.ascends;
+      new_map = first.new_head.ascends;
       found = λ all all_new seen above before.
           found_next r (labels_of c.loop-next.olds.now) (labels_of c.loop-next.news.now)
           (labels_of c.in-Some.old_rest.now) (labels_of c.in-Some.new_rest.now) first all all_new

@@ -59,8 +59,8 @@ loop-revised-preserved c =
     subst (λ (n : List ℕ). IsRevised c.args.now n c.in-Some.revised c.loop-revised.site.cells
     c.revise.new.site.cells) inv.name c.in-Ok.ensures.ok in record {
       name = c.in-Ok.ensures.name ∙ inv.name;
-      old_map = first.old_head.rises;
-      new_map = first.new_head.rises;
+      old_map = first.old_head.ascends;
+      new_map = first.new_head.ascends;
       front = front_next c.args.now name c.args.old.now c.args.new.now c.args.site.now.cells
           (labels_of c.loop-revised.olds.now) (labels_of c.loop-revised.news.now)
           c.loop-revised.site.cells inv.front c.in-Some.revised

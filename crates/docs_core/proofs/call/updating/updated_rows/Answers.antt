@@ -21,13 +21,13 @@ close-requires c =
     (c.new-start.result.old.now, c.new-start.result.new.now, show.0, show.3.2)
 
 -- the changes ascend
-pub with_changes-requires-clause-rising : goal.with_changes-requires-clause-rising
-with_changes-requires-clause-rising c =
+pub with_changes-requires-clause-ascending : goal.with_changes-requires-clause-ascending
+with_changes-requires-clause-ascending c =
     let show = c.in_ok-name.ensures in
     let are = c.in_ok-changes.ensures c.new-start.result.old.now c.new-start.result.new.now show.0
     show.3.2 show.2 in
     subst (λ (xs : List KeyChange). IsMap key_cmp (changes_of xs)) (sym c.as_slice.ensures.value)
-    are.0.rising
+    are.0.ascending
 
 -- no change is written
 pub with_changes-requires-clause-holds : goal.with_changes-requires-clause-holds

@@ -33,7 +33,7 @@ loop-change-preserved c =
     let of : KeyChange → Change = λ x.
     ((x.key.now.id, x.key.now.lang), option_map (λ l. l.now) x.label) in
     let above = above_taken of items i item c.loop-change-test.true c.change-item.is
-    c.requires.rising in
+    c.requires.ascending in
     let more = taken_more of items i item c.loop-change-test.true c.change-item.is in record {
       site = c.add.ensures.site ∙ inv.site;
       holds = λ now name last begun.

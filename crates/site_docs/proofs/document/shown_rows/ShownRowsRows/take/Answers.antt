@@ -1,8 +1,8 @@
 use Rattle.std.proofs.Common.{◌≡◌, false, inr, refl, true}
 use Rattle.cell_core.specs.Entry.{EntryKey}
 use Rattle.json_docs.specs.ScanningReads.{seen}
-use Rattle.row_docs.specs.Rising.{entry_in, own_cell_checks}
-use Rattle.row_docs.proofs.RisingLemmas.{fails_row, key_of_cell, passes_row}
+use Rattle.row_docs.specs.Ascending.{entry_in, own_cell_checks}
+use Rattle.row_docs.proofs.AscendingLemmas.{fails_row, key_of_cell, passes_row}
 use Rattle.site_docs.proofs.ShownRowsLemmas.{above_shown, shown_more, some_weaker}
 use Rattle.site_docs.proofs.document.shown_rows.ShownRowsRows.take.Goals as goal
 
@@ -16,14 +16,14 @@ returns-then-not-is_after-clause-err g c = inr (λ start before is holds.
     fails_row (entry_in version) (own_cell_checks version) before c.args.place d holds.cells _ _ is
     holds.makes own.1 (key_of_cell _ _) own.0
     (λ above. let never : false ≡ true = c.if-not-is_after.ensures.1
-    ((above_shown _ holds.cells key holds.makes.rising holds.last).1 above) in absurd (cc)))
+    ((above_shown _ holds.cells key holds.makes.ascending holds.last).1 above) in absurd (cc)))
 
 -- the key is above those of the rows before
 pub show-requires : goal.show-requires
 show-requires g c κs =
     let holds = c.requires.held.3 in
     let key : EntryKey = (c.in_ok-id.field-0.id, c.in_ok-id.field-0.lang) in
-    let above = (above_shown _ holds.cells key holds.makes.rising holds.last).0
+    let above = (above_shown _ holds.cells key holds.makes.ascending holds.last).0
     (c.if-not-is_after.ensures.0 refl) in (
       (refl, tt),
       some_weaker c.args.self.now.sink _ _
@@ -37,7 +37,7 @@ returns-clause-ok g c = λ start before is holds.
     let version = c.args.version in
     let own = c.in_ok-id.ensures in
     let key : EntryKey = (c.in_ok-id.field-0.id, c.in_ok-id.field-0.lang) in
-    let above = (above_shown _ holds.cells key holds.makes.rising holds.last).0
+    let above = (above_shown _ holds.cells key holds.makes.ascending holds.last).0
     (c.if-not-is_after.ensures.0 refl) in (
       passes_row (entry_in version) (own_cell_checks version) before c.args.place d holds.cells _ _
           is holds.makes own.1 (key_of_cell _ _) own.0 above,

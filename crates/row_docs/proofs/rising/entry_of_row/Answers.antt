@@ -1,7 +1,0 @@
-use Rattle.json_docs.specs.ScanningReads.{seen}
-use Rattle.row_docs.proofs.RisingLemmas.{own_cell}
-use Rattle.row_docs.proofs.rising.entry_of_row.Goals as goal
-
-pub returns : goal.returns
-returns c = own_cell c.cell_entry.result c.args.version c.args.place
-    (seen c.args.row.now) _ _ c.in-Some.ensures.cell c.cell_entry.ensures

@@ -1,0 +1,90 @@
+//! The rows of sites, deltas and summaries, which come in ascending order of key.
+ghost use Rattle.std.specs.Prelude.{◌≡◌, Some, MatchResult};
+ghost use Rattle.json.specs.Value.{value_view};
+ghost use Rattle.json_docs.specs.FaultChecks.{AllPass, FirstFails, OrMemory};
+ghost use Rattle.json_docs.specs.ScanningReads.{IsRead, seen};
+ghost use Rattle.json_docs.specs.declared.fault.DocCause.TheVariants.{NoMemory};
+ghost use Rattle.row_docs.specs.EntriesSeen.{entry_by, stamped_by};
+ghost use Rattle.row_docs.specs.Ascending.{MakesEntries, entry_in, own_cell_checks};
+ghost use Rattle.row_docs.specs.Ascending.{own_stamp_checks, stamp_checks, stamped_in};
+
+use crate::arrays::Rows;
+use crate::fields::{CellEntry, StampEntry, cell_entry, stamp_entry};
+use crate::shapes::{cell_of, stamp_of};
+use crate::version::Version;
+use cata_core::Summary;
+use cell_core::SiteName;
+use json::Value;
+use json_docs::{DocCause, Spot};
+use std::alloc::Global;
+
+/// Keeps all stamps.
+impl Rows<SiteName> for Summary {
+    ghost Checks = { stamp_checks };
+
+    ghost Holds = { λ owner version summary rows.
+        MakesEntries (stamped_in version) rows summary.stamps };
+
+    fn restart(&mut self, alloc: Global, start: &SiteName) {
+        *self = Summary::new(alloc, *start);
+    }
+
+    fn take(
+        &mut self,
+        alloc: Global,
+        version: Version,
+        place: usize,
+        row: &Value<'_>,
+    ) -> Result<(), DocCause> {
+        let StampEntry { id, lang, stamp } = own_stamp(alloc, version, place, row)?;
+        if !self.is_above_all(&id, &lang) {
+            return Err(DocCause::CellOrder { row: place });
+        }
+        self.push(id, lang, stamp)?;
+        Ok(())
+    }
+}
+
+/// The key and the cell of a row of a site or a delta, whatever rows come before it.
+///
+/// Refused by the first test of the row that fails, or since memory ran out (26).
+pub fn entry_of_row(
+    alloc: Global,
+    version: Version,
+    place: usize,
+    row: &Value<'_>,
+) -> Result<CellEntry, DocCause>
+    requires { IsRead (value_view row.now) }
+    ensures { MatchResult result
+        (λ x. AllPass (own_cell_checks version place (seen row.now))
+        × (entry_in version (seen row.now) ≡ Some (entry_by x)))
+        (OrMemory NoMemory (FirstFails (own_cell_checks version place (seen row.now)))) }
+{
+    let Some(cell) = cell_of(version, row) else {
+        return Err(DocCause::Shape {
+            spot: Spot::Row(place),
+        });
+    };
+    cell_entry(alloc, place, cell)
+}
+
+/// What a row of a summary is by itself.
+fn own_stamp(
+    alloc: Global,
+    version: Version,
+    place: usize,
+    row: &Value<'_>,
+) -> Result<StampEntry, DocCause>
+    requires { IsRead (value_view row.now) }
+    ensures { MatchResult result
+        (λ x. AllPass (own_stamp_checks version place (seen row.now))
+        × (stamped_in version (seen row.now) ≡ Some (stamped_by x)))
+        (OrMemory NoMemory (FirstFails (own_stamp_checks version place (seen row.now)))) }
+{
+    let Some(stamp) = stamp_of(version, row) else {
+        return Err(DocCause::Shape {
+            spot: Spot::Row(place),
+        });
+    };
+    stamp_entry(alloc, place, stamp)
+}
