@@ -17,7 +17,6 @@ pub mod SiteEqualLemmas
 pub mod SiteFaultLemmas
 pub mod SiteMigrationLemmas
 pub mod SiteOwnEditsLemmas
-pub mod SummaryEqualLemmas
 pub mod SummaryLemmas
 pub mod SummaryListsLemmas
 pub mod SyncingRepeatsLemmas

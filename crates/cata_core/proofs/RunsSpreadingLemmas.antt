@@ -17,7 +17,7 @@ use Rattle.catalogue.proofs.CatalogueMembersLemmas.{In, in_from_Contains, Contai
 use Rattle.catalogue.proofs.CatalogueMembersLemmas.{in_append_right}
 use Rattle.catalogue.proofs.CatalogueMembersLemmas.{in_append_cases}
 use Rattle.catalogue.proofs.CatalogueLemmas.{same_catalogue}
-use Rattle.cata_core.proofs.SummaryLemmas.{summary_ascends}
+use Rattle.cata_core.proofs.SummaryLemmas.{summary_grows}
 use Rattle.catalogue.proofs.CatalogueSettledLemmas.{settled_part}
 use Rattle.cata_core.proofs.RunsTakesLemmas.{grows, takes_here}
 
@@ -50,7 +50,7 @@ taken_only_grows p q s e h =
 pub summaries_ascend : (p q : List Step) (s : ℕ)
     → IsBelowStamps (summary_of (catalogue_of (taken p s)))
     (summary_of (catalogue_of (taken (p ++ q) s)))
-summaries_ascend p q s = summary_ascends (taken (p ++ q) s) (taken p s) (taken_grows p q s)
+summaries_ascend p q s = summary_grows (taken (p ++ q) s) (taken p s) (taken_grows p q s)
 
 -- ---- only edits of the steps
 

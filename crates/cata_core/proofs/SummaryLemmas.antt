@@ -98,9 +98,9 @@ below_if_has own summary m n has = (
         ] refl)
 
 -- who took more has a summary above
-pub summary_ascends : (own told : List Entry) → ((e : Entry) → In told e → In own e)
+pub summary_grows : (own told : List Entry) → ((e : Entry) → In told e → In own e)
     → IsBelowStamps (summary_of (catalogue_of told)) (summary_of (catalogue_of own))
-summary_ascends own told within =
+summary_grows own told within =
     below_if_has (catalogue_of own) (summary_of (catalogue_of told)) (catalogue_of-IsMap own)
     (summary-IsMap (catalogue_of told) (catalogue_of-IsMap told)) (has_told own told within)
 
@@ -133,11 +133,10 @@ has_joined own other summary m n has k s told =
           | false ↦ λ t. h
         ] refl
 
--- and when ascended
-pub has_ascended : (old new : Entries) (summary : Stamps) → HasAll old summary → IsBelowCells old
-    new
-    → HasAll new summary
-has_ascended old new summary has below = elim below.0 as (λ _. HasAll new summary) [
+-- and when it has grown
+pub has_grown : (old new : Entries) (summary : Stamps) → HasAll old summary
+    → IsBelowCells old new → HasAll new summary
+has_grown old new summary has below = elim below.0 as (λ _. HasAll new summary) [
   | inl e ↦ subst (λ (es : Entries). HasAll es summary) e has
   | inr r ↦
       subst (λ (es : Entries). HasAll es summary) below.1

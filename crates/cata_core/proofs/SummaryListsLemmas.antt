@@ -1,28 +1,17 @@
--- The entries of a summary, and the first entry of a map in ascending order.
-use Rattle.std.proofs.Common.{◌≡◌, ◌≢◌, true, false, cond, List, [], ◌∷◌, ◌++◌, Some, None, refl}
+-- The first entry of a map in ascending order.
+use Rattle.std.proofs.Common.{◌≡◌, ◌≢◌, true, false, cond, List, ◌∷◌, Some, None, refl}
 use Rattle.std.proofs.Common.{sym, ap, ◌∙◌, subst, true≢false}
 use Rattle.std.specs.Prelude.{T}
-use Rattle.std.proofs.lemmas.List.{map-append}
 use Rattle.std.specs.declared.cmp.Ordering.{Ordering}
 use Rattle.std.specs.declared.cmp.Ordering.TheVariants.{Less, Equal, Greater}
 use Rattle.std.specs.Ordering.{is_lt, is_eq, ordering_reverse}
 use Rattle.std.specs.Cmp.{tied_itself}
 use Rattle.std.specs.FinMap.Entries.{find, is_sorted, below_all}
 use Rattle.cell_core.specs.Keyed.{IsMap}
-use Rattle.cata_core.specs.declared.summary.SummaryEntry.{SummaryEntry}
 use Rattle.cell_core.specs.Entry.{EntryKey, key_cmp, key_cmp_total, key_cmp_exact}
-use Rattle.cata_core.specs.Summary.{stamps_of}
 use Rattle.catalogue.proofs.EntriesFilteredLemmas.{find-below}
 use Rattle.catalogue.proofs.PlacesKeyLemmas.{below_lesser}
 use Rattle.cell_core.proofs.Basics.{first_part, both_parts}
-
--- An entry pushed to a summary adds its key and stamp to the summary's.
-pub entries_push : (entries : List SummaryEntry) (t : SummaryEntry)
-    → stamps_of (entries ++ t ∷ []) ≡ stamps_of entries ++ ((t.id, t.lang), t.stamp) ∷ []
-entries_push entries t =
-    map-append (λ (t : SummaryEntry). ((t.id, t.lang), t.stamp)) entries (t ∷ [])
-
--- ---- the first key
 
 turned : (r : Ordering) → is_eq r ≡ is_eq (ordering_reverse r)
 turned Less = refl

@@ -6,11 +6,10 @@ ghost use Rattle.cell_core.specs.Keyed.{IsMap};
 ghost use Rattle.cata_core.specs.Delta.{delta_of, is_missing};
 ghost use Rattle.cell_core.specs.Entry.{key_cmp};
 ghost use Rattle.cata_core.specs.DeltaSeeking.{IsBehind};
-ghost use Rattle.cata_core.specs.Summary.{stamps_of};
 
-use crate::summary::{Summary, SummaryEntry};
+use crate::summary::Summary;
 use catalogue::Catalogue;
-use cell_core::{Join, Key, MessageId, SiteName, Stamp};
+use cell_core::{Entry, Join, Key, MessageId, SiteName, Stamp};
 use lang_core::Lang;
 use std::alloc::{AllocError, Global};
 use std::cmp::Ordering;
@@ -85,19 +84,19 @@ pub(crate) fn missing_cells(
 
 /// The stamp of the key, if it is among the entries, and the entries with greater keys.
 fn stamp_at<'a>(
-    entries: &'a [SummaryEntry],
+    entries: &'a [Entry<Stamp>],
     id: &MessageId,
     lang: &Lang,
-) -> (Option<Stamp>, &'a [SummaryEntry])
-    requires { IsMap key_cmp (stamps_of entries.now) }
-    ensures stamp { result.0 ≡ find key_cmp (id.now, lang.now) (stamps_of entries.now) }
-    ensures rest { IsBehind (id.now, lang.now) (stamps_of entries.now) (stamps_of result.1.now) }
+) -> (Option<Stamp>, &'a [Entry<Stamp>])
+    requires { IsMap key_cmp entries.now }
+    ensures stamp { result.0 ≡ find key_cmp (id.now, lang.now) entries.now }
+    ensures rest { IsBehind (id.now, lang.now) entries.now result.1.now }
 {
     let mut rest = entries;
     while let Some((first, more)) = rest.split_first() {
         match first.compare(id, lang) {
             Ordering::Less => rest = more,
-            Ordering::Equal => return (Some(first.stamp), more),
+            Ordering::Equal => return (Some(*first.value()), more),
             Ordering::Greater => return (None, rest),
         }
     }

@@ -85,7 +85,7 @@ pub fn delta_suffices()
         → joined own (delta_of sender summary) ≡ joined own sender }
 {}
 
-/// A summary serves as long as its site's catalogue only ascends: a site has all that it tells, and
+/// A summary serves as long as its site's catalogue only grows: a site has all that it tells, and
 /// has it still after any edit or join, and after a join that ran out of memory.
 pub fn a_told_summary_serves()
     ensures now { (cells : Entries) → HasAll cells (summary_of cells) }

@@ -9,66 +9,35 @@ ghost use Rattle.cell_core.specs.Entry.{key_cmp};
 
 use crate::summary_entries::SummaryEntries;
 use catalogue::Catalogue;
-use cell_core::{Key, MessageId, SiteName, Stamp};
+use cell_core::{Entry, Key, MessageId, SiteName, Stamp};
 use lang_core::Lang;
 use std::alloc::{AllocError, Global};
-use std::cmp::Ordering;
 use std::marker::Model;
-
-/// A message in a language, with the stamp of its cell.
-#[derive(Debug, Drop)]
-pub(crate) struct SummaryEntry {
-    pub(crate) id: MessageId,
-    pub(crate) lang: Lang,
-    pub(crate) stamp: Stamp,
-}
-
-impl SummaryEntry {
-    ghost use Rattle.cell_core.specs.Entry.{key_cmp};
-
-    /// How its key compares with a key.
-    pub(crate) fn compare(&self, id: &MessageId, lang: &Lang) -> Ordering
-        ensures { result ≡ key_cmp (self.now.id, self.now.lang) (id.now, lang.now) }
-    {
-        self.id.cmp(id).then(self.lang.cmp(lang))
-    }
-
-    /// An equal key with an equal stamp.
-    fn copy(&self, alloc: Global) -> Result<SummaryEntry, AllocError>
-        ensures { IfOk result (λ copied. copied ≡ self.now) }
-    {
-        Ok(SummaryEntry {
-            id: self.id.copy(alloc)?,
-            lang: self.lang.copy(alloc)?,
-            stamp: self.stamp,
-        })
-    }
-}
 
 /// The stamps of a site's cells, in strictly ascending order of key, and the name of the site, its
 /// owner.
 #[derive(Debug, Drop)]
 pub struct Summary {
     owner: SiteName,
-    entries: Vec<SummaryEntry>,
+    entries: Vec<Entry<Stamp>>,
 }
 
 impl Model for Summary {
     ghost use Rattle.cell_core.specs.Keyed.{IsMap};
     ghost use Rattle.cell_core.specs.Entry.{key_cmp};
-    ghost use Rattle.cata_core.specs.Summary.{SummaryState, stamps_of};
+    ghost use Rattle.cata_core.specs.Summary.{SummaryState};
 
     ghost Value = { SummaryState };
 
-    ghost view = { λ s. record { owner = s.owner; stamps = stamps_of s.entries.items } };
+    ghost view = { λ s. record { owner = s.owner; stamps = s.entries.items } };
 
-    ghost invariant = { λ s. IsMap key_cmp (stamps_of s.entries.items) };
+    ghost invariant = { λ s. IsMap key_cmp s.entries.items };
 }
 
 impl Summary {
     ghost use Rattle.catalogue.specs.Entries.{IsAboveAll};
     ghost use Rattle.cata_core.specs.SummaryEntries.{stamps_left};
-    ghost use Rattle.cata_core.specs.Summary.{SummaryState, stamps_of};
+    ghost use Rattle.cata_core.specs.Summary.{SummaryState};
 
     /// The summary of this owner without a key, which grows by this allocator.
     pub fn new(alloc: Global, owner: SiteName) -> Summary
@@ -118,7 +87,7 @@ impl Summary {
             ≡ slice_get self.now.stamps place }
     {
         match self.entries.get(place) {
-            Some(entry) => Some((&entry.id, &entry.lang, entry.stamp)),
+            Some(entry) => Some((entry.id(), entry.lang(), *entry.value())),
             None => None,
         }
     }
@@ -155,7 +124,7 @@ impl Summary {
             }) }
         ensures err { OnErr result (self.new ≡ self.old) }
     {
-        self.entries.push(SummaryEntry { id, lang, stamp })?;
+        self.entries.push(Entry::new(id, lang, stamp))?;
         Ok(())
     }
 
@@ -174,8 +143,8 @@ impl Summary {
     }
 
     /// Its entries, in ascending order of key.
-    pub(crate) fn entries(&self) -> &[SummaryEntry]
-        ensures entries { stamps_of result.now ≡ self.now.stamps }
+    pub(crate) fn entries(&self) -> &[Entry<Stamp>]
+        ensures entries { result.now ≡ self.now.stamps }
         ensures sorted { IsMap key_cmp self.now.stamps }
     {
         &self.entries
@@ -192,29 +161,9 @@ impl Summary {
     {
         let mut entries = Vec::new(alloc);
         for (id, lang, cell) in catalogue.iter() {
-            entries.push(SummaryEntry {
-                id: id.copy(alloc)?,
-                lang: lang.copy(alloc)?,
-                stamp: cell.stamp(),
-            })?;
+            entries.push(Entry::new(id.copy(alloc)?, lang.copy(alloc)?, cell.stamp()))?;
         }
         Ok(Summary { owner, entries })
-    }
-}
-
-impl PartialEq for SummaryEntry {
-    ghost use Rattle.std.specs.Cmp as laws_of;
-    ghost use Rattle.std.specs.Cmp.{on_equiv};
-    ghost use Rattle.std.specs.Ordering.{on};
-    ghost use Rattle.cata_core.specs.SummaryEq.{summary_entry_eq, summary_entry_equiv};
-    ghost use Rattle.cata_core.specs.Summary.{entry_of};
-
-    ghost eq = { on entry_of summary_entry_eq };
-
-    ghost laws = { laws_of.partial_equiv_from_equiv (on_equiv entry_of summary_entry_equiv) };
-
-    fn eq(&self, other: &SummaryEntry) -> bool {
-        self.compare(&other.id, &other.lang).is_eq() && self.stamp.cmp(&other.stamp).is_eq()
     }
 }
 

@@ -2,24 +2,22 @@
 
 ghost use Rattle.std.specs.Iterator.{YieldsFirstBy, item_count};
 
-use crate::summary::SummaryEntry;
-use cell_core::{MessageId, Stamp};
+use cell_core::{Entry, MessageId, Stamp};
 use lang_core::Lang;
 
 /// Iterates over the keys of a summary, each with its stamp, in ascending order of key.
 #[derive(Debug, Drop)]
 pub struct SummaryEntries<'a> {
-    entries: &'a [SummaryEntry],
+    entries: &'a [Entry<Stamp>],
 }
 
 impl<'a> SummaryEntries<'a> {
     ghost use Rattle.std.specs.Prelude.{◌≡◌};
-    ghost use Rattle.cata_core.specs.Summary.{stamps_of};
     ghost use Rattle.cata_core.specs.SummaryEntries.{stamps_left};
 
     /// The entries of this slice.
-    pub(crate) fn new(entries: &'a [SummaryEntry]) -> SummaryEntries<'a>
-        ensures { stamps_left result ≡ stamps_of entries.now }
+    pub(crate) fn new(entries: &'a [Entry<Stamp>]) -> SummaryEntries<'a>
+        ensures { stamps_left result ≡ entries.now }
     {
         SummaryEntries { entries }
     }
@@ -38,6 +36,6 @@ impl<'a> Iterator for SummaryEntries<'a> {
     fn next(&mut self) -> Option<(&'a MessageId, &'a Lang, Stamp)> {
         let (first, rest) = self.entries.split_first()?;
         self.entries = rest;
-        Some((&first.id, &first.lang, first.stamp))
+        Some((first.id(), first.lang(), *first.value()))
     }
 }

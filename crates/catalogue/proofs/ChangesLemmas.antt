@@ -296,8 +296,8 @@ are_changes before after m n =
 pub one_changes : (before after : Entries) (a b : Changed) → AreChanges before after a
     → AreChanges before after b → a ≡ b
 one_changes before after a b f g =
-    same_maps key_cmp key_cmp_total key_cmp_exact a b f.ascend g.ascend (λ k. f.each k ∙ sym (g.each
-    k))
+    same_maps key_cmp key_cmp_total key_cmp_exact a b f.ascend g.ascend
+    (λ k. f.each k ∙ sym (g.each k))
 
 module _ (before after : Entries) (changes : Changed) (are : AreChanges before after changes) where
   -- what it has at a key is what both have there, and they differ

@@ -160,10 +160,8 @@ module _ {K J : Type 0} (cmp : K → K → Ordering) where
         below-at cmp e.0 es 0 d (first_part (below_all cmp e.0 es) (is_sorted cmp es) map)
         (omega (arith, lt))
     ascends (e ∷ es) (suc i) d map lt =
-        ascends es i d (second_part (below_all cmp e.0 es) (is_sorted cmp es) map) (omega (
-          arith,
-          lt,
-        ))
+        ascends es i d (second_part (below_all cmp e.0 es) (is_sorted cmp es) map)
+        (omega (arith, lt))
 
     -- the next key of a walk is above this one
     pub next_above : (es : List (K × J)) (i : ℕ) (k : K) (v : J) (d : K × J) → IsMap cmp es

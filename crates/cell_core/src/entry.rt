@@ -72,6 +72,24 @@ impl<V> Entry<V> {
     }
 }
 
+/// Entries are equal where their keys and their values are.
+impl<V: PartialEq> PartialEq for Entry<V> {
+    ghost use Rattle.std.specs.Cmp as laws_of;
+    ghost use Rattle.std.specs.Cmp.{and_per, on_per, eq_by_cmp_equiv};
+    ghost use Rattle.std.specs.Ordering.{eq_by_cmp, eq_of_both, on};
+    ghost use Rattle.cell_core.specs.Entry.{key_cmp, key_cmp_total};
+
+    ghost eq = { eq_of_both (on (λ e. e.0) (eq_by_cmp key_cmp)) (on (λ e. e.1) V.eq) };
+
+    ghost laws = { and_per
+        (on_per (λ e. e.0) (laws_of.partial_equiv_from_equiv (eq_by_cmp_equiv key_cmp_total)))
+        (on_per (λ e. e.1) V.laws) };
+
+    fn eq(&self, other: &Self) -> bool {
+        self.compare(&other.id, &other.lang).is_eq() && self.value == other.value
+    }
+}
+
 impl<V: Join> Entry<V> {
     /// An equal entry.
     pub fn copy(&self, alloc: Global) -> Result<Self, AllocError>

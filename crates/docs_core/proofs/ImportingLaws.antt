@@ -44,6 +44,6 @@ import_of_export now name cells imported m imports =
     ∙ elim (find key_cmp key labels) as (λ o. find key_cmp key labels ≡ o
     → label_at key imported ≡ o) [
       | Some label ↦ λ at. import_puts now name labels [] imported ascend imports key label at
-      | None ↦ λ none. ap label_in (import_leaves now name labels [] imported ascend imports key
-          none)
+      | None ↦
+          λ none. ap label_in (import_leaves now name labels [] imported ascend imports key none)
     ] refl)

@@ -271,8 +271,8 @@ summary_holds : (d : Data) (summary : SummaryState) (old : OldSummary)
     → IsOldSummaryDocument d old → summary ≡ migrated_summary old → IsOldSummary old
 summary_holds d summary old pass small is was same =
     let rows = document_rows kind.Summary stamp_checks d pass in
-    let ascend = stamps_ascend (version_of d) (rows_in kind.Summary d) summary.stamps rows is.stamps
-    in
+    let ascend =
+    stamps_ascend (version_of d) (rows_in kind.Summary d) summary.stamps rows is.stamps in
     record {
       owner_fits = u32_in_small (subject_data kind.Summary d) old.owner was.owner;
       stamps = record {

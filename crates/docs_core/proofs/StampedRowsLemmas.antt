@@ -228,7 +228,8 @@ stamped_same n m a b k l stamped taken time site latest holds =
 -- ---- labels that are put
 
 -- labels that are put after others
-puts_append : (some more : List Labelled) → puts_of (some ++ more) ≡ puts_of some ++ puts_of more
+pub puts_append : (some more : List Labelled)
+    → puts_of (some ++ more) ≡ puts_of some ++ puts_of more
 puts_append some more = map-append (λ (x : Labelled). (x.0, Some x.1)) some more
 
 -- a key that is above labels is above them as they are put
@@ -242,6 +243,21 @@ puts_above labels key above =
 pub puts_more : (labels : List Labelled) (e : Labelled)
     → puts_of (labels ++ e ∷ []) ≡ puts_of labels ++ (e.0, Some e.1) ∷ []
 puts_more labels e = puts_append labels (e ∷ [])
+
+module _ (items : List Labelled) (i : ℕ) (item : Labelled)
+    (below : i < length items) (at : item ≡ get_or items i item) where
+  -- of labels in ascending order one is above those before it
+  pub above_labels_before : IsMap key_cmp items → IsAboveAll item.0 (take i items)
+  above_labels_before ascend =
+      front_below (take i items) (drop (i + 1) items) item.0 item.1
+      (subst (IsMap key_cmp)
+      (sym (take-append-drop i items)
+      ∙ ap (λ (ls : List Labelled). take i items ++ ls) (first_left items i item below at)) ascend)
+
+  -- those before it and it
+  pub labels_more : take (i + 1) items ≡ take i items ++ item ∷ []
+  labels_more =
+      take_more items i item below ∙ ap (λ (l : Labelled). take i items ++ l ∷ []) (sym at)
 
 -- ---- entries that are taken one after another
 

@@ -5,7 +5,7 @@ use Rattle.cell_core.specs.Keyed.{IsMap}
 use Rattle.cell_core.specs.Entry.{EntryKey, key_cmp}
 use Rattle.catalogue.specs.Entries.{Entries, IsAboveAll}
 use Rattle.catalogue.specs.CatalogueLatest.{latest_of}
-use Rattle.map_docs.specs.Maps.{Labelled, labels_of}
+use Rattle.map_docs.specs.Maps.{Labelled}
 use Rattle.docs_core.specs.UpdatingChanges.{Change}
 use Rattle.docs_core.specs.Revised.{key_of, new_of, old_of}
 use Rattle.docs_core.specs.Updating.{AreChanges, IsChangeAt, Texts}
@@ -16,7 +16,7 @@ use Rattle.docs_core.specs.declared.call.revised.Revised.{Revised}
 -- the changes of keys
 abbrev pub changes_of : List KeyChange → List Change
 changes_of changes = map
-    (λ c. ((c.key.now.id, c.key.now.lang), option_map (λ l. l.now) c.label))
+    (λ c. (c.key.now.0, option_map (λ l. l.now) c.label))
     changes
 
 -- one of the two has a label of the key
@@ -36,9 +36,9 @@ pub record IsFound (old new olds news : List Labelled) (seen : Entries) (done : 
 pub record HoldsFound (found : FoundChanges) (old new : List Labelled) (seen : Entries) : Type 0
   where
     pub latest : found.stamps.latest ≡ latest_of seen
-    pub old_map : IsMap key_cmp (labels_of found.olds.now)
-    pub new_map : IsMap key_cmp (labels_of found.news.now)
-    pub changes : IsFound old new (labels_of found.olds.now) (labels_of found.news.now) seen
+    pub old_map : IsMap key_cmp found.olds.now
+    pub new_map : IsMap key_cmp found.news.now
+    pub changes : IsFound old new found.olds.now found.news.now seen
         (changes_of found.changes.items)
 
 -- the change at a key whose label is `held` on the site is one more, where there is one

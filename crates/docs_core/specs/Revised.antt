@@ -17,7 +17,7 @@ use Rattle.docs_core.specs.declared.call.revised.Revised.{Revised}
 
 -- the key: a message and a language
 abbrev pub key_of : Revised → EntryKey
-key_of r = (r.key.now.id, r.key.now.lang)
+key_of r = r.key.now.0
 
 -- the texts at the key before, or none
 abbrev pub old_of : Revised → Texts

@@ -45,7 +45,7 @@ pub use json_docs::{
     write_out,
 };
 pub use lines::{Lines, two_documents};
-pub use map_docs::{KeyedLabel, LangMaps, read_langmaps, write_langmaps};
+pub use map_docs::{LangMaps, read_langmaps, write_langmaps};
 pub use query_docs::{
     Ask, answer_lines, ask_document, bundle_document, bundle_document_by, changes_document,
     changes_lines, export_document, filter_lines, missing_document, outdated_document,

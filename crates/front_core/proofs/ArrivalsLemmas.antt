@@ -27,8 +27,7 @@ use Rattle.catalogue.specs.Entries.{catalogue_laws}
 use Rattle.cata_core.specs.Site.{SiteState}
 use Rattle.catalogue.proofs.CatalogueApplyLemmas.{with_none}
 use Rattle.cata_core.proofs.SiteOwnEditsLemmas.{own_ascends}
-use Rattle.map_docs.specs.Maps.{Labelled, labels_of}
-use Rattle.map_docs.specs.declared.maps.KeyedLabel.{KeyedLabel}
+use Rattle.map_docs.specs.Maps.{Labelled}
 use Rattle.docs_core.specs.ImportingLabels.{Imports, puts_of}
 use Rattle.docs_core.specs.UpdatingChanges.{Change as MadeChange, Makes, with_change}
 use Rattle.docs_core.specs.Updating.{Updates}
@@ -153,26 +152,26 @@ same_cells (Some x) None t = cc
 same_cells (Some x) (Some y) t = ap Some (same_cell x.now y.now t)
 
 -- the key is known, or one of the labels from a place on has it
-abbrev pub IsToKnow : Entries → Entries → List KeyedLabel → ℕ → Entries → EntryKey → Type 0
+abbrev pub IsToKnow : Entries → Entries → List Labelled → ℕ → Entries → EntryKey → Type 0
 IsToKnow before cells items i came q =
-    IsKnown before cells came q ⊎ (find key_cmp q (labels_of (drop i items)) ≢ None)
+    IsKnown before cells came q ⊎ (find key_cmp q (drop i items) ≢ None)
 
 -- One label more is looked at.
-pub label_known : (before cells came more : Entries) (items : List KeyedLabel) (i : ℕ)
-    (item : KeyedLabel) → i < length items → item ≡ get_or items i item
-    → KnowsMore (λ q. q ≡ (item.id, item.lang)) before cells came more → (q : EntryKey)
+pub label_known : (before cells came more : Entries) (items : List Labelled) (i : ℕ)
+    (item : Labelled) → i < length items → item ≡ get_or items i item
+    → KnowsMore (λ q. q ≡ item.0) before cells came more → (q : EntryKey)
     → IsToKnow before cells items i came q → IsToKnow before cells items (i + 1) more q
 label_known before cells came more items i item below at knows q why = elim why [
   | inl known ↦ inl (knows q (inl known))
   | inr some ↦
-      elim (eq_by_cmp key_cmp q (item.id, item.lang)) as
-      (λ t. eq_by_cmp key_cmp q (item.id, item.lang) ≡ t
-      → cond t (Some item.label) (find key_cmp q (labels_of (drop (i + 1) items))) ≢ None
+      elim (eq_by_cmp key_cmp q item.0) as
+      (λ t. eq_by_cmp key_cmp q item.0 ≡ t
+      → cond t (Some item.1) (find key_cmp q (drop (i + 1) items)) ≢ None
       → IsToKnow before cells items (i + 1) more q) [
-        | true ↦ λ t _. inl (knows q (inr (one_key q (item.id, item.lang) t)))
+        | true ↦ λ t _. inl (knows q (inr (one_key q item.0 t)))
         | false ↦ λ t later. inr later
       ] refl
-      (subst (λ (ls : List KeyedLabel). find key_cmp q (labels_of ls) ≢ None)
+      (subst (λ (ls : List Labelled). find key_cmp q ls ≢ None)
       (first_left items i item below at) some)
 ]
 

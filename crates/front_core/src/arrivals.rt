@@ -6,7 +6,6 @@ ghost use Rattle.cell_core.specs.Keyed.{IsMap};
 ghost use Rattle.cata_core.specs.Delta.{IsPart};
 ghost use Rattle.cell_core.specs.Entry.{key_cmp};
 ghost use Rattle.cata_core.specs.Site.{SiteState};
-ghost use Rattle.map_docs.specs.Maps.{labels_of};
 ghost use Rattle.docs_core.specs.ImportingLabels.{Imports};
 ghost use Rattle.docs_core.specs.Updating.{Updates};
 ghost use Rattle.front_core.specs.Arrivals.{HasMore, KnowsMore};
@@ -15,8 +14,8 @@ ghost use Rattle.front_core.specs.OpenSite.{IsJoined};
 
 use crate::change::Change;
 use cata_core::{CataFault, Catalogue, Edit, Site};
-use cell_core::{Cell, Join, Key, MessageId};
-use docs_core::{KeyedLabel, LangMaps};
+use cell_core::{Cell, Entry, Join, Key, Label, MessageId};
+use docs_core::LangMaps;
 use lang_core::Lang;
 use std::alloc::Global;
 
@@ -99,19 +98,19 @@ fn add_changed(
     came: &mut Catalogue,
     was: &Catalogue,
     cells: &Catalogue,
-    labels: &[KeyedLabel],
+    labels: &[Entry<Label>],
 ) -> Option<()>
     requires { IsPart came.old cells.now }
     ensures part { IfSome result (λ _. IsPart came.new cells.now) }
     ensures known { IfSome result (λ _.
-        KnowsMore (λ q. find key_cmp q (labels_of labels.now) ≢ None) was.now cells.now came.old
+        KnowsMore (λ q. find key_cmp q labels.now ≢ None) was.now cells.now came.old
         came.new) }
 {
     for found in labels {
         if came.len() > MAX_ARRIVALS {
             return None;
         }
-        add_if_changed(alloc, came, was, cells, &found.id, &found.lang).ok()?;
+        add_if_changed(alloc, came, was, cells, found.id(), found.lang()).ok()?;
     }
     Some(())
 }

@@ -230,9 +230,8 @@ abbrev pub FitsIn : (Item → Type 0) → List ℕ → ℕ → ℕ → Item → 
 FitsIn Fits numbers bucket k i = IsIn numbers bucket k × Fits i
 
 -- The best of the items of the bucket before a place, which is the end or in the bucket too.
-pub record IsAskedTo (Fits : Item → Type 0) (items : List Item) (numbers : List ℕ) (bucket place :
-    ℕ)
-    (best : Option MostSpecific) : Type 0 where
+pub record IsAskedTo (Fits : Item → Type 0) (items : List Item) (numbers : List ℕ)
+    (bucket place : ℕ) (best : Option MostSpecific) : Type 0 where
   pub so_far : IsBest (Before (FitsIn Fits numbers bucket) place) items best
   pub stands : place < length items → IsIn numbers bucket place
 

@@ -99,9 +99,8 @@ sought_first items buckets text bucket place a b low e =
 
 -- Where the item at a place of the text's bucket has another text, the search goes on at the next
 -- place of the bucket.
-pub sought_next : (items : List Item) (buckets : Buckets) (text : List ℕ) (place next : ℕ) (i :
-    Item)
-    → AreTextBuckets items buckets → place < length items → i ≡ get_or items place i
+pub sought_next : (items : List Item) (buckets : Buckets) (text : List ℕ) (place next : ℕ)
+    (i : Item) → AreTextBuckets items buckets → place < length items → i ≡ get_or items place i
     → bytes_eq i.range text ≡ false → next ≡ get_or buckets.next.items place 0
     → IsSoughtTo items text place → IsSoughtTo items text next
 sought_next items buckets text place next i a low is other e h =

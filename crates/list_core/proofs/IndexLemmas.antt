@@ -99,9 +99,9 @@ listed items places k i index s =
     record { at = c.0; within = c.1; is = same_default places c.0 0 k c.1 ∙ c.2 }
 
 -- Where all ranges are below a text, no range has it.
-pub none_found : (items : List Item) (places text : List ℕ) (position : ℕ) → IsRangeIndex items
-    places
-    → IsPosition items places text position → length places ≤ position → MatchFirst items text None
+pub none_found : (items : List Item) (places text : List ℕ) (position : ℕ)
+    → IsRangeIndex items places → IsPosition items places text position
+    → length places ≤ position → MatchFirst items text None
 none_found items places text position index at past = λ k other s e.
     let l = listed items places k other index s in
     let below = at.below l.at (let w = l.within in omega arith) in
@@ -121,9 +121,8 @@ less_second : (a b : Ordering) → a ≡ Equal → b ≡ Less → is_lt (orderin
 less_second a b e f = ap (λ (o : Ordering). is_lt (ordering_then o b)) e ∙ ap is_lt f
 
 -- Where the first range that is not below a text is another, no range has the text.
-pub other_found : (items : List Item) (places text : List ℕ) (position : ℕ) → IsRangeIndex items
-    places
-    → IsPosition items places text position → position < length places
+pub other_found : (items : List Item) (places text : List ℕ) (position : ℕ)
+    → IsRangeIndex items places → IsPosition items places text position → position < length places
     → (text_at items (get_or places position 0) ≡ text → ⊥) → MatchFirst items text None
 other_found items places text position index at low differs = λ k other s e.
     let l = listed items places k other index s in

@@ -48,8 +48,8 @@ ascends_at (e ∷ es) zero d m h =
     below-at key_cmp e.0 es 0 d (first_part (below_all key_cmp e.0 es) (is_sorted key_cmp es) m)
     (omega arith)
 ascends_at (e ∷ es) (suc k) d m h =
-    ascends_at es k d (second_part (below_all key_cmp e.0 es) (is_sorted key_cmp es) m) (omega
-    arith)
+    ascends_at es k d (second_part (below_all key_cmp e.0 es) (is_sorted key_cmp es) m)
+    (omega arith)
 
 not_before : (x y : Labelled) → key_cmp x.0 y.0 ≡ Less → is_lt (label_cmp y x) ≡ false
 not_before x y less =

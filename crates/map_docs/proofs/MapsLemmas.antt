@@ -3,24 +3,17 @@ use Rattle.std.proofs.Common.{◌≡◌, ◌∙◌, ℕ, Bool, true, false, List
 use Rattle.std.proofs.Common.{append_assoc}
 use Rattle.std.specs.Prelude.{Option, None, Some, if◌then◌else◌}
 use Rattle.std.specs.Str.{bytes_eq}
-use Rattle.std.proofs.lemmas.List.{map-append}
 use Rattle.json.specs.Print.{print}
 use Rattle.json.specs.Token.{Token, begin_object, end_object, key}
 use Rattle.json.specs.Tree.{members_tokens}
 use Rattle.json.specs.Written.{Written}
 use Rattle.serde_json.specs.Written.{members_outline}
 use Rattle.row_docs.specs.WritingTexts.{text, value_tokens}
-use Rattle.map_docs.specs.Maps.{Labelled, labels_of}
+use Rattle.map_docs.specs.Maps.{Labelled}
 use Rattle.map_docs.specs.MapsValue.{Messages, by_message, langmaps_value, language_value}
 use Rattle.map_docs.specs.MapsValue.{languages_members, messages_members, with_label}
 use Rattle.map_docs.specs.WritingMaps.{label_tokens, labels_tokens, opening_tokens}
-use Rattle.map_docs.specs.declared.maps.KeyedLabel.{KeyedLabel}
 use Rattle.row_docs.proofs.WritingTextsLemmas.{printed}
-
--- one label more is pushed after the others
-pub labels_push : (labels : List KeyedLabel) (l : KeyedLabel)
-    → labels_of (labels ++ l ∷ []) ≡ labels_of labels ++ ((l.id, l.lang), l.label) ∷ []
-labels_push labels l = map-append (λ (l : KeyedLabel). ((l.id, l.lang), l.label)) labels (l ∷ [])
 
 -- ---- the tokens of all labels are those of the document
 

@@ -21,7 +21,7 @@ mod rows;
 mod taking;
 mod writing;
 
-pub use maps::{KeyedLabel, LangMaps};
+pub use maps::LangMaps;
 pub use reading::{langmaps_of_document, read_langmaps, take_langmaps};
 pub use taking::TakeLabels;
 pub use writing::{

@@ -5,46 +5,34 @@ ghost use Rattle.std.specs.Slice.Iter.{iter_rest};
 ghost use Rattle.cell_core.specs.Keyed.{IsMap};
 ghost use Rattle.cell_core.specs.Entry.{key_cmp};
 
-use cell_core::{Label, MessageId};
+use cell_core::{Entry, Label, MessageId};
 use lang_core::Lang;
 use std::alloc::{AllocError, Global};
 use std::marker::Model;
 use std::slice;
 
-/// A label with its message and language.
-#[derive(Drop)]
-pub struct KeyedLabel {
-    /// The message that it is of.
-    pub id: MessageId,
-    /// The language that it is in.
-    pub lang: Lang,
-    /// Its texts.
-    pub label: Label,
-}
-
 /// The labels of messages by language, in strictly ascending order of key: by the bytes of the id,
 /// then by those of the language. A contract sees them as a list.
 #[derive(Drop)]
 pub struct LangMaps {
-    labels: Vec<KeyedLabel>,
+    labels: Vec<Entry<Label>>,
 }
 
 impl Model for LangMaps {
     ghost use Rattle.std.specs.Prelude.{List};
     ghost use Rattle.cell_core.specs.Keyed.{IsMap};
     ghost use Rattle.cell_core.specs.Entry.{key_cmp};
-    ghost use Rattle.map_docs.specs.Maps.{Labelled, labels_of};
+    ghost use Rattle.map_docs.specs.Maps.{Labelled};
 
     ghost Value = { List Labelled };
 
-    ghost view = { λ m. labels_of m.labels.items };
+    ghost view = { λ m. m.labels.items };
 
-    ghost invariant = { λ m. IsMap key_cmp (labels_of m.labels.items) };
+    ghost invariant = { λ m. IsMap key_cmp m.labels.items };
 }
 
 impl LangMaps {
     ghost use Rattle.catalogue.specs.Entries.{IsAboveAll};
-    ghost use Rattle.map_docs.specs.Maps.{labels_of};
 
     /// No label yet. The list grows by this allocator; it takes no memory now.
     pub fn new(alloc: Global) -> LangMaps
@@ -85,14 +73,14 @@ impl LangMaps {
             ≡ slice_get self.now place }
     {
         match self.labels.get(place) {
-            Some(found) => Some((&found.id, &found.lang, &found.label)),
+            Some(found) => Some((found.id(), found.lang(), found.value())),
             None => None,
         }
     }
 
     /// All labels with their messages and languages, in ascending order of key.
-    pub fn iter(&self) -> slice::Iter<'_, KeyedLabel>
-        ensures labels { labels_of (iter_rest result) ≡ self.now }
+    pub fn iter(&self) -> slice::Iter<'_, Entry<Label>>
+        ensures labels { (iter_rest result) ≡ self.now }
         ensures sorted { IsMap key_cmp self.now }
     {
         self.labels.iter()
@@ -106,13 +94,13 @@ impl LangMaps {
         ensures ok { OnOk result (self.new ≡ self.old ++ ((id, lang), label) ∷ []) }
         ensures err { OnErr result (self.new ≡ self.old) }
     {
-        self.labels.push(KeyedLabel { id, lang, label })?;
+        self.labels.push(Entry::new(id, lang, label))?;
         Ok(())
     }
 
     /// The labels, in ascending order of key.
-    pub fn labels(&self) -> &[KeyedLabel]
-        ensures labels { labels_of result.now ≡ self.now }
+    pub fn labels(&self) -> &[Entry<Label>]
+        ensures labels { result.now ≡ self.now }
         ensures sorted { IsMap key_cmp self.now }
     {
         &self.labels

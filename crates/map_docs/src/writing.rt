@@ -34,9 +34,10 @@ pub fn write_langmaps(alloc: Global, maps: &LangMaps) -> Result<Doc, AllocError>
     let mut draft = open_labels(alloc)?;
     let mut current: Option<&MessageId> = None;
     for label in maps.labels() {
-        open_message(&mut draft, current, &label.id)?;
-        write_label(&mut draft, &label.lang, &label.label)?;
-        current = Some(&label.id);
+        let id = label.id();
+        open_message(&mut draft, current, id)?;
+        write_label(&mut draft, label.lang(), label.value())?;
+        current = Some(id);
     }
     close_labels(draft, current)
 }

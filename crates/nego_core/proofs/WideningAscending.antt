@@ -99,9 +99,9 @@ put_all Q x (y ∷ ys) q h =
     put_all_at Q (slice_cmp nat_cmp x y) x y ys (put_in x ys) q h
     (put_all Q x ys q (All-tail Q y ys h))
 
-put_ascending_at : (o : Ordering) (x y : List ℕ) (ys rest : List (List ℕ)) → slice_cmp nat_cmp x y ≡
-    o
-    → AllPairs Ascends (y ∷ ys) → AllPairs Ascends rest → (Ascends y x → All (Ascends y) rest)
+put_ascending_at : (o : Ordering) (x y : List ℕ) (ys rest : List (List ℕ))
+    → slice_cmp nat_cmp x y ≡ o → AllPairs Ascends (y ∷ ys) → AllPairs Ascends rest
+    → (Ascends y x → All (Ascends y) rest)
     → AllPairs Ascends (put_at o x y ys rest)
 put_ascending_at Less x y ys rest e h r f =
     AllPairs-cons Ascends x (y ∷ ys)

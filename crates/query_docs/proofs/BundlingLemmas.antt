@@ -197,8 +197,8 @@ module _ (widening : Widening) (cells : Entries) (items : List Item) (default : 
               (below_all key_cmp (id, lang) rest) (is_less id lang m.0 found less) others
         ])
 
-    answers_ascend : (messages : List LiveMessage) (labels : List Labelled) → IsMap text_cmp
-    messages
+    answers_ascend : (messages : List LiveMessage) (labels : List Labelled)
+        → IsMap text_cmp messages
         → LooksUp widening items default messages labels → IsMap key_cmp labels
     answers_ascend [] labels m is = subst (λ (ls : List Labelled). IsMap key_cmp ls) (sym is) tt
     answers_ascend (x ∷ ms) labels m (reply, rest, is, more, all) =

@@ -14,15 +14,12 @@ use Rattle.cell_core.specs.declared.stamp.Stamp.{Stamp}
 use Rattle.json_docs.specs.FaultChecks.{AllPass, Check, FirstFails}
 use Rattle.json_docs.specs.declared.fault.DocCause.{DocCause}
 use Rattle.json_docs.specs.declared.fault.DocCause.TheVariants.{CellOrder, NoMemory}
-use Rattle.row_docs.specs.EntriesSeen.{entry_by, stamped_by}
 use Rattle.row_docs.specs.Fields.{cell_fields, IsAfter, entry_of, key_of, order_check}
 use Rattle.row_docs.specs.Fields.{stamp_fields, stamped_of}
 use Rattle.row_docs.specs.Ascending.{AreEntries, entry_in, MakesEntries, last_key, no_row}
 use Rattle.row_docs.specs.Ascending.{own_cell_checks, own_stamp_checks, stamped_in}
 use Rattle.row_docs.specs.ShapesRows.{cell_in, stamp_in}
 use Rattle.row_docs.specs.EntriesValues.{Row}
-use Rattle.row_docs.specs.declared.fields.CellEntry.{CellEntry}
-use Rattle.row_docs.specs.declared.fields.StampEntry.{StampEntry}
 use Rattle.row_docs.specs.declared.version.Version.{Version}
 use Rattle.catalogue.proofs.CatalogueAboveLemmas.{IsMap-behind}
 use Rattle.catalogue.proofs.PlacesLastKeysLemmas.{above_last, above_none}
@@ -129,24 +126,25 @@ module _ {J : Type 0} (entry : Data → Option (EntryKey × J)) where
         (inl ((λ behind. never ((after_all before old e.0 makes).0 behind)), refl))))
 
 -- the tests of a row of a site or a delta by itself, where its shape is found
-pub own_cell : (r : Result CellEntry DocCause) (version : Version) (k : ℕ) (d : Data) (row : Row)
+pub own_cell : (r : Result Entry DocCause) (version : Version) (k : ℕ) (d : Data) (row : Row)
     (texts : Option (List (List ℕ))) → Some (row, texts) ≡ cell_in version d
-    → MatchResult r (λ x. AllPass (cell_fields k row texts) × (entry_by x ≡ entry_of row texts))
+    → MatchResult r (λ x. AllPass (cell_fields k row texts) × (x ≡ entry_of row texts))
     (λ e. (e ≡ NoMemory) ⊎ FirstFails (cell_fields k row texts) e)
     → MatchResult r (λ x. AllPass (own_cell_checks version k d)
-    × (entry_in version d ≡ Some (entry_by x)))
+    × (entry_in version d ≡ Some x))
     (λ e. (e ≡ NoMemory) ⊎ FirstFails (own_cell_checks version k d) e)
 own_cell (Ok x) version k d row texts is h = rw (← is) ((refl, h.0), ap Some (sym h.1))
 own_cell (Err e) version k d row texts is h =
     rw (← is) (elim h [ inl m ↦ inl m | inr f ↦ inr (inr (refl, f)) ])
 
 -- the same of a summary
-pub own_stamp : (r : Result StampEntry DocCause) (version : Version) (k : ℕ) (d : Data) (row : Row)
+pub own_stamp : (r : Result (EntryKey × Stamp) DocCause) (version : Version) (k : ℕ) (d : Data)
+    (row : Row)
     → Some row ≡ stamp_in version d
-    → MatchResult r (λ x. AllPass (stamp_fields k row) × (stamped_by x ≡ stamped_of row))
+    → MatchResult r (λ x. AllPass (stamp_fields k row) × (x ≡ stamped_of row))
     (λ e. (e ≡ NoMemory) ⊎ FirstFails (stamp_fields k row) e)
     → MatchResult r (λ x. AllPass (own_stamp_checks version k d)
-    × (stamped_in version d ≡ Some (stamped_by x)))
+    × (stamped_in version d ≡ Some x))
     (λ e. (e ≡ NoMemory) ⊎ FirstFails (own_stamp_checks version k d) e)
 own_stamp (Ok x) version k d row is h = rw (← is) ((refl, h.0), ap Some (sym h.1))
 own_stamp (Err e) version k d row is h =

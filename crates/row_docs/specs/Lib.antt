@@ -1,5 +1,4 @@
 pub mod Entries
-pub mod EntriesSeen
 pub mod EntriesValid
 pub mod EntriesValues
 pub mod Fields

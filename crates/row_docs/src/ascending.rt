@@ -4,16 +4,15 @@ ghost use Rattle.json.specs.Value.{value_view};
 ghost use Rattle.json_docs.specs.FaultChecks.{AllPass, FirstFails, OrMemory};
 ghost use Rattle.json_docs.specs.ScanningReads.{IsRead, seen};
 ghost use Rattle.json_docs.specs.declared.fault.DocCause.TheVariants.{NoMemory};
-ghost use Rattle.row_docs.specs.EntriesSeen.{entry_by, stamped_by};
 ghost use Rattle.row_docs.specs.Ascending.{MakesEntries, entry_in, own_cell_checks};
 ghost use Rattle.row_docs.specs.Ascending.{own_stamp_checks, stamp_checks, stamped_in};
 
 use crate::arrays::Rows;
-use crate::fields::{CellEntry, StampEntry, cell_entry, stamp_entry};
+use crate::fields::{cell_entry, stamp_entry};
 use crate::shapes::{cell_of, stamp_of};
 use crate::version::Version;
 use cata_core::Summary;
-use cell_core::SiteName;
+use cell_core::{Cell, Entry, SiteName, Stamp};
 use json::Value;
 use json_docs::{DocCause, Spot};
 use std::alloc::Global;
@@ -36,7 +35,7 @@ impl Rows<SiteName> for Summary {
         place: usize,
         row: &Value<'_>,
     ) -> Result<(), DocCause> {
-        let StampEntry { id, lang, stamp } = own_stamp(alloc, version, place, row)?;
+        let (id, lang, stamp) = own_stamp(alloc, version, place, row)?.into_parts();
         if !self.is_above_all(&id, &lang) {
             return Err(DocCause::CellOrder { row: place });
         }
@@ -53,11 +52,11 @@ pub fn entry_of_row(
     version: Version,
     place: usize,
     row: &Value<'_>,
-) -> Result<CellEntry, DocCause>
+) -> Result<Entry<Cell>, DocCause>
     requires { IsRead (value_view row.now) }
     ensures { MatchResult result
         (λ x. AllPass (own_cell_checks version place (seen row.now))
-        × (entry_in version (seen row.now) ≡ Some (entry_by x)))
+        × (entry_in version (seen row.now) ≡ Some x))
         (OrMemory NoMemory (FirstFails (own_cell_checks version place (seen row.now)))) }
 {
     let Some(cell) = cell_of(version, row) else {
@@ -74,11 +73,11 @@ fn own_stamp(
     version: Version,
     place: usize,
     row: &Value<'_>,
-) -> Result<StampEntry, DocCause>
+) -> Result<Entry<Stamp>, DocCause>
     requires { IsRead (value_view row.now) }
     ensures { MatchResult result
         (λ x. AllPass (own_stamp_checks version place (seen row.now))
-        × (stamped_in version (seen row.now) ≡ Some (stamped_by x)))
+        × (stamped_in version (seen row.now) ≡ Some x))
         (OrMemory NoMemory (FirstFails (own_stamp_checks version place (seen row.now)))) }
 {
     let Some(stamp) = stamp_of(version, row) else {

@@ -10,7 +10,6 @@ ghost use Rattle.json_docs.specs.ScanningReads.{seen};
 ghost use Rattle.row_docs.specs.Fields.{IsLabelRefusal, IsLabelText, IsLanguageRefusal};
 ghost use Rattle.row_docs.specs.Fields.{cell_cause, cell_fields, entry_of, stamp_fields};
 ghost use Rattle.row_docs.specs.Fields.{stamped_of};
-ghost use Rattle.row_docs.specs.EntriesSeen.{entry_by, stamped_by};
 ghost use Rattle.serde_json.specs.Find.{as_str};
 ghost use Rattle.std.specs.List.{filter_map};
 ghost use Rattle.json_docs.specs.declared.fault.DocCause.TheVariants.{Field, NoMemory};
@@ -18,33 +17,11 @@ ghost use Rattle.json_docs.specs.declared.fault.FieldFault.TheVariants.{Cell as 
 ghost use Rattle.row_docs.specs.ShapesRowsSeen.{AreTexts, AreTextsOf, row_of, site_of, texts_of};
 
 use crate::shapes::{CellRow, Row, SiteText};
-use cell_core::{Cell, CellFault, Label, MessageId, SiteName, Stamp};
+use cell_core::{Cell, CellFault, Entry, Label, MessageId, SiteName, Stamp};
 use json::Value;
 use json_docs::{DocCause, FieldFault, text_of};
 use lang_core::{Lang, LangFault};
 use std::alloc::{AllocError, Global};
-
-/// The key and the stamp of a row of a summary.
-#[derive(Drop)]
-pub struct StampEntry {
-    /// The message.
-    pub id: MessageId,
-    /// The language.
-    pub lang: Lang,
-    /// The stamp.
-    pub stamp: Stamp,
-}
-
-/// The key and the cell of a row of a site or a delta.
-#[derive(Drop)]
-pub struct CellEntry {
-    /// The message.
-    pub id: MessageId,
-    /// The language.
-    pub lang: Lang,
-    /// The cell.
-    pub cell: Cell,
-}
 
 /// The id of a row.
 pub fn id_of(alloc: Global, place: usize, text: &str) -> Result<MessageId, DocCause>
@@ -108,10 +85,10 @@ pub(crate) fn label_of(
     }
 }
 
-/// What the fields of a row without a label make.
-pub fn stamp_entry(alloc: Global, place: usize, row: Row<'_>) -> Result<StampEntry, DocCause>
+/// The key and the stamp that the fields of a row of a summary make.
+pub fn stamp_entry(alloc: Global, place: usize, row: Row<'_>) -> Result<Entry<Stamp>, DocCause>
     ensures { let plain = row_of row.entry in MatchResult result
-        (λ x. AllPass (stamp_fields place plain) × (stamped_by x ≡ stamped_of plain))
+        (λ x. AllPass (stamp_fields place plain) × (x ≡ stamped_of plain))
         (OrMemory NoMemory (FirstFails (stamp_fields place plain))) }
 {
     let id = id_of(alloc, place, row.id)?;
@@ -122,22 +99,25 @@ pub fn stamp_entry(alloc: Global, place: usize, row: Row<'_>) -> Result<StampEnt
         site,
         count: row.count,
     };
-    Ok(StampEntry { id, lang, stamp })
+    Ok(Entry::new(id, lang, stamp))
 }
 
-/// What the fields of a row with a label make.
-pub fn cell_entry(alloc: Global, place: usize, cell: CellRow<'_, '_>) -> Result<CellEntry, DocCause>
+/// The key and the cell that the fields of a row of a site or a delta make.
+pub fn cell_entry(
+    alloc: Global,
+    place: usize,
+    cell: CellRow<'_, '_>,
+) -> Result<Entry<Cell>, DocCause>
     requires { AreTextsOf cell.texts }
     ensures { let plain = row_of cell.entry.row in
         let texts = option_map (λ values. texts_of values.now) cell.entry.texts in
         MatchResult result
-        (λ x. AllPass (cell_fields place plain texts) × (entry_by x ≡ entry_of plain texts))
+        (λ x. AllPass (cell_fields place plain texts) × (x ≡ entry_of plain texts))
         (OrMemory NoMemory (FirstFails (cell_fields place plain texts))) }
 {
-    let StampEntry { id, lang, stamp } = stamp_entry(alloc, place, cell.row)?;
+    let (id, lang, stamp) = stamp_entry(alloc, place, cell.row)?.into_parts();
     let label = label_of(alloc, place, cell.texts)?;
-    let cell = Cell::new(stamp, label);
-    Ok(CellEntry { id, lang, cell })
+    Ok(Entry::new(id, lang, Cell::new(stamp, label)))
 }
 
 /// A refusal of a field; out of memory has no row.

@@ -28,7 +28,7 @@ mod writing;
 pub use arrays::Rows;
 pub use ascending::entry_of_row;
 pub use entries::{write_entry, write_stamped};
-pub use fields::{CellEntry, StampEntry, cell_entry, id_of, language_of, of_cell, stamp_entry};
+pub use fields::{cell_entry, id_of, language_of, of_cell, stamp_entry};
 pub use header::Subject;
 pub use kind::Kind;
 pub use shapes::{CellRow, Row, SiteText, cell_of};

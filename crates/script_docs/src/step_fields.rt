@@ -14,7 +14,7 @@ use cata_core::{Edit, Step};
 use json_docs::{DocCause, FieldFault};
 use lang_core::Lang;
 use nego_core::{Malformed, NegoFault, PriorityList, Scheme};
-use row_docs::{CellEntry, CellRow, cell_entry, id_of, language_of};
+use row_docs::{CellRow, cell_entry, id_of, language_of};
 use std::alloc::Global;
 
 /// What the fields of a step make.
@@ -74,7 +74,7 @@ fn read_edit(
         (λ step. AllPass (step_fields place text) × Makes text step)
         (OrMemory NoMemory (FirstFails (step_fields place text))) }
 {
-    let CellEntry { id, lang, cell } = cell_entry(alloc, place, cell)?;
+    let (id, lang, cell) = cell_entry(alloc, place, cell)?.into_parts();
     Ok(Step::Edit {
         site: site as usize,
         edit: Edit::new(id, lang, cell),

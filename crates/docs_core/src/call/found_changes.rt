@@ -4,15 +4,15 @@ ghost use Rattle.cell_core.specs.Keyed.{IsMap};
 ghost use Rattle.cell_core.specs.Entry.{key_cmp};
 ghost use Rattle.catalogue.specs.Entries.{Entries, IsAboveAll};
 ghost use Rattle.catalogue.specs.CatalogueLatest.{latest_of};
-ghost use Rattle.map_docs.specs.Maps.{Labelled, labels_of};
+ghost use Rattle.map_docs.specs.Maps.{Labelled};
 ghost use Rattle.site_docs.specs.Sink.{entry_of, texts_of};
 ghost use Rattle.docs_core.specs.FoundChanges.{HoldsFound, IsFound, IsNoted, changes_of};
 ghost use Rattle.docs_core.specs.Updating.{AreChanges};
 
 use crate::call::latest_stamp::{LatestStamp, later};
-use crate::call::revised::{Revised, compare, first_revised, is_change};
-use cell_core::Label;
-use map_docs::{KeyedLabel, LangMaps};
+use crate::call::revised::{Revised, first_revised, is_change};
+use cell_core::{Entry, Label};
+use map_docs::LangMaps;
 use site_docs::{CellRef, CellSink, LabelRef};
 use std::alloc::{AllocError, Global};
 use std::cmp::Ordering;
@@ -21,7 +21,7 @@ use std::cmp::Ordering;
 #[derive(Drop)]
 pub(crate) struct KeyChange<'k> {
     /// The label of the key, before or after.
-    pub(crate) key: &'k KeyedLabel,
+    pub(crate) key: &'k Entry<Label>,
     /// The new label; none deletes.
     pub(crate) label: Option<&'k Label>,
 }
@@ -32,9 +32,9 @@ pub(crate) struct FoundChanges<'k> {
     old: &'k LangMaps,
     new: &'k LangMaps,
     /// The old labels of greater keys.
-    olds: &'k [KeyedLabel],
+    olds: &'k [Entry<Label>],
     /// The new labels of greater keys.
-    news: &'k [KeyedLabel],
+    news: &'k [Entry<Label>],
     changes: Vec<KeyChange<'k>>,
     /// The latest stamp of all cells that were seen.
     stamps: LatestStamp,
@@ -102,26 +102,26 @@ impl<'t, 'k> CellSink<'t> for FoundChanges<'k> {
 
 /// Finds the changes at the keys up to that of the cell, and answers the labels of greater keys.
 fn find_up_to<'k>(
-    old: &'k [KeyedLabel],
-    new: &'k [KeyedLabel],
+    old: &'k [Entry<Label>],
+    new: &'k [Entry<Label>],
     cell: &CellRef<'_, '_>,
     changes: &mut Vec<KeyChange<'k>>,
-) -> Result<(&'k [KeyedLabel], &'k [KeyedLabel]), AllocError>
-    requires old { IsMap key_cmp (labels_of old.now) }
-    requires new { IsMap key_cmp (labels_of new.now) }
-    ensures old { IfOk result (λ left. IsMap key_cmp (labels_of left.0.now)) }
-    ensures new { IfOk result (λ left. IsMap key_cmp (labels_of left.1.now)) }
+) -> Result<(&'k [Entry<Label>], &'k [Entry<Label>]), AllocError>
+    requires old { IsMap key_cmp old.now }
+    requires new { IsMap key_cmp new.now }
+    ensures old { IfOk result (λ left. IsMap key_cmp left.0.now) }
+    ensures new { IfOk result (λ left. IsMap key_cmp left.1.now) }
     ensures found { IfOk result (λ left. (all all_new : List Labelled) (seen : Entries)
         → IsAboveAll (entry_of cell.now).0 seen
-        → IsFound all all_new (labels_of old.now) (labels_of new.now) seen
+        → IsFound all all_new old.now new.now seen
         (changes_of changes.old.items)
-        → IsFound all all_new (labels_of left.0.now) (labels_of left.1.now)
+        → IsFound all all_new left.0.now left.1.now
         (seen ++ entry_of cell.now ∷ []) (changes_of changes.new.items)) }
 {
     let mut olds = old;
     let mut news = new;
     while let Some((next, old_rest, new_rest)) = first_revised(olds, news) {
-        match compare(next.key, cell.id, cell.lang) {
+        match next.key.compare(cell.id, cell.lang) {
             Ordering::Less => note(&next, &LabelRef::Deleted, changes)?,
             Ordering::Equal => note(&next, &cell.label, changes)?,
             Ordering::Greater => return Ok((olds, news)),
@@ -134,15 +134,15 @@ fn find_up_to<'k>(
 
 /// Finds the changes at all keys that are left, of which the site has no cells.
 fn find_rest<'k>(
-    old: &'k [KeyedLabel],
-    new: &'k [KeyedLabel],
+    old: &'k [Entry<Label>],
+    new: &'k [Entry<Label>],
     changes: &mut Vec<KeyChange<'k>>,
 ) -> Result<(), AllocError>
-    requires old { IsMap key_cmp (labels_of old.now) }
-    requires new { IsMap key_cmp (labels_of new.now) }
+    requires old { IsMap key_cmp old.now }
+    requires new { IsMap key_cmp new.now }
     ensures { OnOk result ((all all_new : List Labelled) (cells : Entries)
         → IsMap key_cmp cells
-        → IsFound all all_new (labels_of old.now) (labels_of new.now) cells
+        → IsFound all all_new old.now new.now cells
         (changes_of changes.old.items)
         → AreChanges all all_new cells (changes_of changes.new.items)) }
 {

@@ -59,7 +59,7 @@ pub fn put_labels(
         × Imports now site.old.name some site.old.cells site.new.cells) }
 {
     for found in maps.labels() {
-        match site.put(alloc, now, &found.id, &found.lang, &found.label) {
+        match site.put(alloc, now, found.id(), found.lang(), found.value()) {
             Ok(_) => {}
             Err(fault) => return Err(fault),
         }
@@ -118,10 +118,10 @@ fn with_labels(
         return None;
     };
     for found in maps.labels() {
-        let Ok(label) = found.label.copy(alloc) else {
+        let Ok(label) = found.value().copy(alloc) else {
             return None;
         };
-        stamped.add(alloc, &found.id, &found.lang, Some(label))?;
+        stamped.add(alloc, found.id(), found.lang(), Some(label))?;
     }
     stamped.close(alloc)
 }

@@ -4,35 +4,32 @@ ghost use Rattle.std.specs.Prelude.{length, option_map};
 ghost use Rattle.std.specs.Bool.{Decides};
 ghost use Rattle.cell_core.specs.Keyed.{IsMap};
 ghost use Rattle.cell_core.specs.Entry.{key_cmp};
-ghost use Rattle.map_docs.specs.Maps.{labels_of};
 ghost use Rattle.site_docs.specs.Sink.{texts_of};
 ghost use Rattle.docs_core.specs.Revised.{IsFirstRevised, key_of, new_of, old_of};
 ghost use Rattle.docs_core.specs.Updating.{IsChangeAt};
 
-use cell_core::{Key, Label, MessageId};
-use lang_core::Lang;
-use map_docs::KeyedLabel;
+use cell_core::{Entry, Label};
 use site_docs::LabelRef;
 use std::cmp::Ordering;
 
 /// A key of language maps, with its label before an editor worked on them, and as it is now.
 #[derive(Drop)]
 pub(crate) struct Revised<'a> {
-    pub(crate) key: &'a KeyedLabel,
+    pub(crate) key: &'a Entry<Label>,
     pub(crate) old: Option<&'a Label>,
     pub(crate) new: Option<&'a Label>,
 }
 
 /// The least key of both lists, and what is left of them.
 pub(crate) fn first_revised<'a>(
-    old: &'a [KeyedLabel],
-    new: &'a [KeyedLabel],
-) -> Option<(Revised<'a>, &'a [KeyedLabel], &'a [KeyedLabel])>
-    requires old { IsMap key_cmp (labels_of old.now) }
-    requires new { IsMap key_cmp (labels_of new.now) }
+    old: &'a [Entry<Label>],
+    new: &'a [Entry<Label>],
+) -> Option<(Revised<'a>, &'a [Entry<Label>], &'a [Entry<Label>])>
+    requires old { IsMap key_cmp old.now }
+    requires new { IsMap key_cmp new.now }
     ensures first { MatchOption result ((old.now ≡ []) × (new.now ≡ []))
-        (λ r. IsFirstRevised r.0 (labels_of old.now) (labels_of new.now) (labels_of r.1.now)
-        (labels_of r.2.now)) }
+        (λ r. IsFirstRevised r.0 old.now new.now r.1.now
+        r.2.now) }
     ensures less { IfSome result (λ r. length r.1.now + length r.2.now < length old.now + length
         new.now) }
 {
@@ -41,20 +38,13 @@ pub(crate) fn first_revised<'a>(
         (Some((left, olds)), None) => Some((removed(left), olds, new)),
         (None, Some((right, news))) => Some((added(right), old, news)),
         (Some((left, olds)), Some((right, news))) => Some(
-            match compare(left, &right.id, &right.lang) {
+            match left.compare(right.id(), right.lang()) {
                 Ordering::Less => (removed(left), olds, new),
                 Ordering::Greater => (added(right), old, news),
                 Ordering::Equal => (kept(left, right), olds, news),
             },
         ),
     }
-}
-
-/// How the key of a label is ordered to this one.
-pub(crate) fn compare(label: &KeyedLabel, id: &MessageId, lang: &Lang) -> Ordering
-    ensures { result ≡ key_cmp (label.now.id, label.now.lang) (id.now, lang.now) }
-{
-    label.id.cmp(id).then(label.lang.cmp(lang))
 }
 
 /// Whether the label of a key was changed, and to another than the site has.
@@ -66,41 +56,41 @@ pub(crate) fn is_change(held: &LabelRef<'_>, revised: &Revised<'_>) -> bool
 }
 
 /// A label that was there alone.
-fn removed(was: &KeyedLabel) -> Revised<'_>
-    ensures key { key_of result ≡ (was.now.id, was.now.lang) }
-    ensures old { old_of result ≡ Some was.now.label }
+fn removed(was: &Entry<Label>) -> Revised<'_>
+    ensures key { key_of result ≡ was.now.0 }
+    ensures old { old_of result ≡ Some was.now.1 }
     ensures new { new_of result ≡ None }
 {
     Revised {
         key: was,
-        old: Some(&was.label),
+        old: Some(was.value()),
         new: None,
     }
 }
 
 /// A label that is there alone.
-fn added(is: &KeyedLabel) -> Revised<'_>
-    ensures key { key_of result ≡ (is.now.id, is.now.lang) }
+fn added(is: &Entry<Label>) -> Revised<'_>
+    ensures key { key_of result ≡ is.now.0 }
     ensures old { old_of result ≡ None }
-    ensures new { new_of result ≡ Some is.now.label }
+    ensures new { new_of result ≡ Some is.now.1 }
 {
     Revised {
         key: is,
         old: None,
-        new: Some(&is.label),
+        new: Some(is.value()),
     }
 }
 
 /// A label that was there and is there.
-fn kept<'a>(was: &'a KeyedLabel, is: &'a KeyedLabel) -> Revised<'a>
-    ensures key { key_of result ≡ (was.now.id, was.now.lang) }
-    ensures old { old_of result ≡ Some was.now.label }
-    ensures new { new_of result ≡ Some is.now.label }
+fn kept<'a>(was: &'a Entry<Label>, is: &'a Entry<Label>) -> Revised<'a>
+    ensures key { key_of result ≡ was.now.0 }
+    ensures old { old_of result ≡ Some was.now.1 }
+    ensures new { new_of result ≡ Some is.now.1 }
 {
     Revised {
         key: was,
-        old: Some(&was.label),
-        new: Some(&is.label),
+        old: Some(was.value()),
+        new: Some(is.value()),
     }
 }
 

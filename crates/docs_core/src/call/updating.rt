@@ -25,8 +25,9 @@ use crate::call::revised::{Revised, first_revised, is_change};
 use crate::call::sites::{copy_of, edit, first_refusal};
 use crate::call::stamped_rows::StampedRows;
 use cata_core::{CataFault, Catalogue, Site};
+use cell_core::{Entry, Label};
 use json_docs::{Doc, DocFault};
-use map_docs::{KeyedLabel, LangMaps, langmaps_of_document};
+use map_docs::{LangMaps, langmaps_of_document};
 use query_docs::label_at;
 use site_docs::{LabelRef, WrittenRows, show_document, site_at, write_site};
 use std::alloc::Global;
@@ -154,7 +155,7 @@ fn with_changes(
         let Ok(label) = copy_of(alloc, change.label) else {
             return None;
         };
-        stamped.add(alloc, &key.id, &key.lang, label)?;
+        stamped.add(alloc, key.id(), key.lang(), label)?;
     }
     stamped.close(alloc)
 }
@@ -193,17 +194,17 @@ fn revise(alloc: Global, site: &mut Site, now: u64, revised: &Revised<'_>) -> Re
     if !is_change(&held_label(site.catalogue(), key), revised) {
         return Ok(());
     }
-    match edit(alloc, site, now, &key.id, &key.lang, revised.new) {
+    match edit(alloc, site, now, key.id(), key.lang(), revised.new) {
         Ok(_) => Ok(()),
         Err(fault) => Err(fault),
     }
 }
 
 /// The live label of a key.
-fn held_label<'a>(cells: &'a Catalogue, key: &KeyedLabel) -> LabelRef<'a>
-    ensures { texts_of result ≡ label_at (key.now.id, key.now.lang) cells.now }
+fn held_label<'a>(cells: &'a Catalogue, key: &Entry<Label>) -> LabelRef<'a>
+    ensures { texts_of result ≡ label_at key.now.0 cells.now }
 {
-    match label_at(cells, &key.id, &key.lang) {
+    match label_at(cells, key.id(), key.lang()) {
         Some(label) => LabelRef::Held(label),
         None => LabelRef::Deleted,
     }

@@ -62,9 +62,9 @@ fn no_labels_are_an_empty_object(rt: HostRuntime) -> Result<(), Fail> {
 /// Whether the walk meets just these languages, each with one text of the message `m`.
 fn is_walk(maps: &LangMaps, tags: &[&str]) -> bool {
     for (found, tag) in maps.iter().zip(tags) {
-        if found.id.as_str() != "m"
-            || found.lang.as_str() != *tag
-            || found.label.texts().len() != 1
+        if found.id().as_str() != "m"
+            || found.lang().as_str() != *tag
+            || found.value().texts().len() != 1
         {
             return false;
         }

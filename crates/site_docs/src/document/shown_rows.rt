@@ -13,7 +13,7 @@ use cell_core::{Cell, Key, MessageId};
 use json::Value;
 use json_docs::DocCause;
 use lang_core::Lang;
-use row_docs::{CellEntry, Rows, Version, entry_of_row};
+use row_docs::{Rows, Version, entry_of_row};
 use std::alloc::{AllocError, Global};
 use std::marker::PhantomData;
 
@@ -65,7 +65,7 @@ impl<'t, S: CellSink<'t>> Rows<S> for ShownRows<'t, S> {
         place: usize,
         row: &Value<'_>,
     ) -> Result<(), DocCause> {
-        let CellEntry { id, lang, cell } = entry_of_row(alloc, version, place, row)?;
+        let (id, lang, cell) = entry_of_row(alloc, version, place, row)?.into_parts();
         if !is_after(&self.last, &id, &lang) {
             return Err(DocCause::CellOrder { row: place });
         }

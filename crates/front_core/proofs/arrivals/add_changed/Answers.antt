@@ -1,4 +1,6 @@
-use Rattle.std.proofs.Common.{◌∙◌, sym}
+use Rattle.std.proofs.Common.{◌≡◌, ◌∙◌, subst, sym}
+use Rattle.cell_core.specs.Entry.{EntryKey}
+use Rattle.front_core.specs.Arrivals.{KnowsMore}
 use Rattle.front_core.proofs.ArrivalsLemmas.{label_known}
 use Rattle.front_core.proofs.SpareLemmas.{on_ok_at}
 use Rattle.front_core.proofs.arrivals.add_changed.Goals as goal
@@ -13,6 +15,8 @@ loop-found-preserved c =
       known = λ q why. label_known c.args.was.now c.args.cells.now c.loop-found.came
           c.add_if_changed.new.came c.args.labels.now c.loop-found.found-index
           c.found-item.result c.loop-found-test.true c.found-item.is
-          (on_ok_at result c.in_ok-ok.field-0 added c.add_if_changed.ensures.known) q
+          (subst (λ (k : EntryKey). KnowsMore (λ q. q ≡ k) c.args.was.now c.args.cells.now
+          c.loop-found.came c.add_if_changed.new.came) (λ j. (c.id.ensures j, c.lang.ensures j))
+          (on_ok_at result c.in_ok-ok.field-0 added c.add_if_changed.ensures.known)) q
           (inv.known q why);
     }

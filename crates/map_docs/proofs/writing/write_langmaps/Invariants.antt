@@ -1,7 +1,6 @@
 use Rattle.std.proofs.Common.{drop}
 use Rattle.std.specs.Prelude.{IfSome, option_map}
 use Rattle.cell_core.specs.MessageId.{IsMessageId}
-use Rattle.map_docs.specs.Maps.{labels_of}
 use Rattle.map_docs.specs.WritingMaps.{IsWriting}
 use Rattle.map_docs.proofs.writing.write_langmaps.Given as goal
 
@@ -9,5 +8,5 @@ use Rattle.map_docs.proofs.writing.write_langmaps.Given as goal
 abbrev pub invariant-loop-label : goal.invariant-loop-label
 invariant-loop-label l =
     IsWriting l.draft (option_map (λ id. id.now) l.current)
-    (labels_of (drop l.label-index l.label-items)) (labels_of l.label-items)
+    (drop l.label-index l.label-items) l.label-items
     × IfSome (option_map (λ id. id.now) l.current) IsMessageId

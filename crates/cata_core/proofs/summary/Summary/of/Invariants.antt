@@ -1,9 +1,8 @@
 use Rattle.std.proofs.Common.{◌≡◌, ◌++◌}
 use Rattle.catalogue.specs.Cells.{cells_left}
 use Rattle.cata_core.specs.Delta.{summary_of}
-use Rattle.cata_core.specs.Summary.{stamps_of}
 use Rattle.cata_core.proofs.summary.Summary.of.Given as goal
 
 abbrev pub invariant-loop-id : goal.invariant-loop-id
 invariant-loop-id l =
-    stamps_of l.entries.items ++ summary_of (cells_left l.id-iterator) ≡ summary_of l.catalogue
+    l.entries.items ++ summary_of (cells_left l.id-iterator) ≡ summary_of l.catalogue

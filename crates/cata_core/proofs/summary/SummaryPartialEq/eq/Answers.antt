@@ -3,8 +3,6 @@ use Rattle.std.specs.Prelude.{nat_eq}
 use Rattle.std.specs.Cmp.{IsPartialEquivalence, partial_equiv_from_equiv}
 use Rattle.std.specs.Cmp.Lexicographic.{pointwise, nat_list_eq_equiv}
 use Rattle.cata_core.specs.SummaryEq.{summary_entry_eq, summary_eq}
-use Rattle.cata_core.specs.Summary.{stamps_of}
-use Rattle.cata_core.proofs.SummaryEqualLemmas.{pointwise_entries}
 use Rattle.cata_core.proofs.summary.SummaryPartialEq.eq.Goals as goal
 
 same : IsPartialEquivalence (pointwise nat_eq)
@@ -15,7 +13,6 @@ returns-then-eq c =
     let owners : pointwise nat_eq c.self.inside.owner c.other.inside.owner ≡ true =
     same.symm c.self.inside.owner c.other.inside.owner ∙ sym c.eq.ensures ∙ c.if-eq.true in
     c.eq-then-eq.ensures
-    ∙ pointwise_entries c.self.inside.entries.items c.other.inside.entries.items
-    ∙ ap (λ b. b && pointwise summary_entry_eq (stamps_of c.self.inside.entries.items)
-    (stamps_of c.other.inside.entries.items)) (sym owners)
+    ∙ ap (λ b. b && pointwise summary_entry_eq c.self.inside.entries.items
+    c.other.inside.entries.items) (sym owners)
     ∙ (λ i. summary_eq (c.self.view_is i) (c.other.view_is i))

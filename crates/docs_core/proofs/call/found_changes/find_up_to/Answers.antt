@@ -1,7 +1,6 @@
-use Rattle.std.proofs.Common.{◌≡◌, None, ap, sym}
+use Rattle.std.proofs.Common.{◌≡◌, None, sym}
 use Rattle.std.specs.declared.cmp.Ordering.TheVariants.{Less}
 use Rattle.cell_core.specs.Entry.{key_cmp}
-use Rattle.map_docs.specs.Maps.{labels_of}
 use Rattle.site_docs.specs.Sink.{entry_of}
 use Rattle.docs_core.specs.FoundChanges.{changes_of}
 use Rattle.docs_core.specs.Revised.{key_of}
@@ -14,8 +13,8 @@ pub loop-next-init : goal.loop-next-init
 loop-next-init c = record {
   old_map = c.requires.old;
   new_map = c.requires.new;
-  found = λ all all_new seen above before. found_before all all_new (labels_of c.args.old.now)
-      (labels_of c.args.new.now) seen (entry_of c.args.cell.now)
+  found = λ all all_new seen above before. found_before all all_new c.args.old.now
+      c.args.new.now seen (entry_of c.args.cell.now)
       (changes_of c.args.changes.now.items) before;
 }
 
@@ -23,12 +22,12 @@ loop-next-init c = record {
 pub returns-in-Greater-clause-found : goal.returns-in-Greater-clause-found
 returns-in-Greater-clause-found c = λ all all_new seen above before.
     let e = entry_of c.args.cell.now in
-    let olds = labels_of c.loop-next.olds.now in
-    let news = labels_of c.loop-next.news.now in
+    let olds = c.loop-next.olds.now in
+    let news = c.loop-next.news.now in
     found_cell all all_new olds news seen e (changes_of c.loop-next.changes.items)
     (c.loop-next.invariant.found all all_new seen above before)
-    (all_greater c.in-Some.next olds news (labels_of c.in-Some.old_rest.now)
-    (labels_of c.in-Some.new_rest.now) c.in-Some.ensures.first e.0 (sym c.in-Greater.ensures))
+    (all_greater c.in-Some.next olds news c.in-Some.old_rest.now
+    c.in-Some.new_rest.now c.in-Some.ensures.first e.0 (sym c.in-Greater.ensures))
 
 -- a lesser key is passed, which has no cell
 pub loop-next-preserved-in_ok-note-in-Less : goal.loop-next-preserved-in_ok-note-in-Less
@@ -41,8 +40,8 @@ loop-next-preserved-in_ok-note-in-Less c =
       new_map = first.new_head.ascends;
       found = λ all all_new seen above before.
           let so = inv.found all all_new seen above before in
-          found_next r (labels_of c.loop-next.olds.now) (labels_of c.loop-next.news.now)
-          (labels_of c.in-Some.old_rest.now) (labels_of c.in-Some.new_rest.now) first all all_new
+          found_next r c.loop-next.olds.now c.loop-next.news.now
+          c.in-Some.old_rest.now c.in-Some.new_rest.now first all all_new
           seen (GoesOn seen e) None (changes_of c.loop-next.changes.items)
           (changes_of c.note.new.changes.items) so
           (λ cells goes has. lesser_absent seen e (key_of r) cells goes (so.above (key_of r) has)
@@ -60,8 +59,8 @@ loop-next-preserved c =
       old_map = first.old_head.ascends;
       new_map = first.new_head.ascends;
       found = λ all all_new seen above before.
-          found_next r (labels_of c.loop-next.olds.now) (labels_of c.loop-next.news.now)
-          (labels_of c.in-Some.old_rest.now) (labels_of c.in-Some.new_rest.now) first all all_new
+          found_next r c.loop-next.olds.now c.loop-next.news.now
+          c.in-Some.old_rest.now c.in-Some.new_rest.now first all all_new
           seen (GoesOn seen e) e.1.label (changes_of c.loop-next.changes.items)
           (changes_of c.note-in-Equal.new.changes.items)
           (inv.found all all_new seen above before)
@@ -74,10 +73,10 @@ loop-next-preserved c =
 pub returns-clause-found : goal.returns-clause-found
 returns-clause-found c = λ all all_new seen above before.
     let e = entry_of c.args.cell.now in
-    let olds = labels_of c.loop-next.olds.now in
-    let news = labels_of c.loop-next.news.now in
+    let olds = c.loop-next.olds.now in
+    let news = c.loop-next.news.now in
     let none = c.in_default.ensures.first in
     found_cell all all_new olds news seen e (changes_of c.loop-next.changes.items)
     (c.loop-next.invariant.found all all_new seen above before)
-    (none_left olds news (ap labels_of none.0) (ap labels_of none.1)
+    (none_left olds news none.0 none.1
     (λ key. key_cmp e.0 key ≡ Less))

@@ -2,7 +2,7 @@ use Rattle.std.proofs.Common.{◌+◌, List, length}
 use Rattle.cell_core.specs.Keyed.{IsMap}
 use Rattle.cell_core.specs.Entry.{key_cmp}
 use Rattle.catalogue.specs.Entries.{Entries, IsAboveAll}
-use Rattle.map_docs.specs.Maps.{Labelled, labels_of}
+use Rattle.map_docs.specs.Maps.{Labelled}
 use Rattle.site_docs.specs.Sink.{entry_of}
 use Rattle.docs_core.specs.FoundChanges.{IsFound, changes_of}
 use Rattle.docs_core.proofs.FoundChangesLemmas.{GoesOn, IsFoundIn}
@@ -11,13 +11,13 @@ use Rattle.docs_core.proofs.call.found_changes.find_up_to.Given as goal
 -- the changes at the keys before those that are left are found
 abbrev pub invariant-loop-next : goal.invariant-loop-next
 invariant-loop-next l = record {
-  old_map : IsMap key_cmp (labels_of l.olds);
-  new_map : IsMap key_cmp (labels_of l.news);
+  old_map : IsMap key_cmp l.olds;
+  new_map : IsMap key_cmp l.news;
   found : (all all_new : List Labelled) (seen : Entries)
       → IsAboveAll (entry_of l.fn.cell).0 seen
-      → IsFound all all_new (labels_of l.fn.old) (labels_of l.fn.new) seen
+      → IsFound all all_new l.fn.old l.fn.new seen
       (changes_of l.fn.changes.items)
-      → IsFoundIn all all_new (labels_of l.olds) (labels_of l.news) seen
+      → IsFoundIn all all_new l.olds l.news seen
       (GoesOn seen (entry_of l.fn.cell)) (changes_of l.changes.items);
 }
 

@@ -1,9 +1,10 @@
-use Rattle.std.proofs.Common.{◌∙◌, ℕ, List, ap, subst}
+use Rattle.std.proofs.Common.{◌∙◌, ℕ, List, Some, ap, subst}
 use Rattle.cell_core.specs.Stamp.{IsNext, NoNext}
 use Rattle.catalogue.specs.CatalogueLatest.{latest_of}
 use Rattle.cata_core.specs.Site.{SiteState}
 use Rattle.map_docs.specs.Maps.{Labelled}
 use Rattle.docs_core.specs.ImportingLabels.{SpendsImport}
+use Rattle.docs_core.specs.UpdatingChanges.{with_change}
 use Rattle.map_docs.proofs.MapsLabelsLemmas.{else_by}
 use Rattle.docs_core.proofs.ImportingLemmas.{Imports-push, SpendsImport-here, not_put, some_put}
 use Rattle.docs_core.proofs.call.importing.put_labels.Goals as goal
@@ -47,5 +48,7 @@ loop-found-preserved c =
       put = Imports-push c.args.now name c.labels-found-items.result.now c.loop-found.found-index
           c.found-item.result c.loop-found-test.true c.found-item.is c.args.site.now.cells
           c.loop-found.site.cells inv.put c.in-Ok.field-0 c.put.new.self.cells next
-          (ap (λ (s : SiteState). s.cells) put.1);
+          (ap (λ (s : SiteState). s.cells) put.1
+          ∙ (λ j. with_change ((c.id.ensures j, c.lang.ensures j), Some (c.value.ensures j))
+          c.in-Ok.field-0 c.loop-found.site.cells));
     }

@@ -2,7 +2,6 @@ use Rattle.std.proofs.Common.{◌∙◌, ℕ, List, ap, subst}
 use Rattle.cell_core.specs.Stamp.{NoNext}
 use Rattle.catalogue.specs.CatalogueLatest.{latest_of}
 use Rattle.cata_core.specs.Site.{SiteState}
-use Rattle.map_docs.specs.Maps.{labels_of}
 use Rattle.docs_core.specs.Revised.{IsRevised}
 use Rattle.map_docs.proofs.MapsLabelsLemmas.{else_by}
 use Rattle.docs_core.proofs.UpdatingLemmas.{SpendsUpdate-here, front_done, front_left, front_next}
@@ -15,8 +14,8 @@ pub returns-in-Err-clause-err : goal.returns-in-Err-clause-err
 returns-in-Err-clause-err c =
     let inv = c.loop-revised.invariant in
     let name = c.args.site.now.name in
-    let olds = labels_of c.loop-revised.olds.now in
-    let news = labels_of c.loop-revised.news.now in
+    let olds = c.loop-revised.olds.now in
+    let news = c.loop-revised.news.now in
     let cells = c.loop-revised.site.cells in
     else_by c.in-Err.ensures.err
     (λ spent. (
@@ -24,7 +23,7 @@ returns-in-Err-clause-err c =
       front_spends c.args.now name c.args.old.now c.args.new.now c.args.site.now.cells olds news
           cells inv.front
           (SpendsUpdate-here c.args.now name c.in-Some.revised olds news
-          (labels_of c.in-Some.old_rest.now) (labels_of c.in-Some.new_rest.now)
+          c.in-Some.old_rest.now c.in-Some.new_rest.now
           c.in-Some.ensures.first cells (
             spent.1.0,
             subst (λ (n : List ℕ). NoNext (latest_of c.loop-revised.site.cells) c.args.now n)
@@ -36,7 +35,7 @@ returns-in-Err-clause-err c =
 pub returns-in-Err-clause-left : goal.returns-in-Err-clause-left
 returns-in-Err-clause-left c =
     front_left c.args.now c.args.site.now.name c.args.old.now c.args.new.now
-    c.args.site.now.cells (labels_of c.loop-revised.olds.now) (labels_of c.loop-revised.news.now)
+    c.args.site.now.cells c.loop-revised.olds.now c.loop-revised.news.now
     c.loop-revised.site.cells c.loop-revised.invariant.front c.revise.new.site.cells
     (ap (λ (s : SiteState). s.cells) c.in-Err.ensures.left)
 
@@ -45,9 +44,9 @@ pub returns-clause-ok : goal.returns-clause-ok
 returns-clause-ok c =
     let none = c.in_default.ensures.first in
     front_done c.args.now c.args.site.now.name c.args.old.now c.args.new.now
-    c.args.site.now.cells (labels_of c.loop-revised.olds.now) (labels_of c.loop-revised.news.now)
-    c.loop-revised.site.cells c.loop-revised.invariant.front (ap labels_of none.0)
-    (ap labels_of none.1)
+    c.args.site.now.cells c.loop-revised.olds.now c.loop-revised.news.now
+    c.loop-revised.site.cells c.loop-revised.invariant.front none.0
+    none.1
 
 -- The least key was revised, the site's name stays, and what is left of both lists still ascends.
 pub loop-revised-preserved : goal.loop-revised-preserved
@@ -62,8 +61,8 @@ loop-revised-preserved c =
       old_map = first.old_head.ascends;
       new_map = first.new_head.ascends;
       front = front_next c.args.now name c.args.old.now c.args.new.now c.args.site.now.cells
-          (labels_of c.loop-revised.olds.now) (labels_of c.loop-revised.news.now)
+          c.loop-revised.olds.now c.loop-revised.news.now
           c.loop-revised.site.cells inv.front c.in-Some.revised
-          (labels_of c.in-Some.old_rest.now) (labels_of c.in-Some.new_rest.now)
+          c.in-Some.old_rest.now c.in-Some.new_rest.now
           c.revise.new.site.cells first done;
     }

@@ -1,9 +1,11 @@
-use Rattle.std.proofs.Common.{◌≡◌, ◌∙◌, ◌++◌, [], ◌∷◌, List, ap, arith, length, refl, subst, sym}
+use Rattle.std.proofs.Common.{◌≡◌, ◌∙◌, ◌++◌, [], ◌∷◌, List, arith, length, refl, subst, sym}
 use Rattle.std.proofs.Common.{take, ℕ}
 use Rattle.std.proofs.Math.Seq.{take-length}
 use Rattle.std.proofs.lemmas.Option.{IfSome_then}
 use Rattle.std.specs.Prelude.{option_map}
+use Rattle.cell_core.specs.Entry.{EntryKey}
 use Rattle.catalogue.specs.CatalogueLatest.{latest_of}
+use Rattle.catalogue.specs.Entries.{IsAboveAll}
 use Rattle.site_docs.specs.Reading.{ReadsAsSite}
 use Rattle.docs_core.specs.FoundChanges.{changes_of}
 use Rattle.docs_core.specs.UpdatingChanges.{Change}
@@ -31,16 +33,17 @@ loop-change-preserved c =
     let i = c.loop-change.change-index in
     let item = c.change-item.result in
     let of : KeyChange → Change = λ x.
-    ((x.key.now.id, x.key.now.lang), option_map (λ l. l.now) x.label) in
-    let above = above_taken of items i item c.loop-change-test.true c.change-item.is
-    c.requires.ascending in
+    (x.key.now.0, option_map (λ l. l.now) x.label) in
+    let keyed : (c.id.result.now, c.lang.result.now) ≡ item.key.now.0 =
+    λ j. (c.id.ensures j, c.lang.ensures j) in
+    let above = subst (λ (k : EntryKey). IsAboveAll k (changes_of (take i items))) (sym keyed)
+    (above_taken of items i item c.loop-change-test.true c.change-item.is
+    c.requires.ascending) in
     let more = taken_more of items i item c.loop-change-test.true c.change-item.is in record {
       site = c.add.ensures.site ∙ inv.site;
       holds = λ now name last begun.
           subst (HoldsStamped now name last c.add.new.self)
-          (ap (λ b. changes_of (take i items) ++ ((item.key.now.id, item.key.now.lang), b) ∷ [])
-          c.in-Ok.ensures
-          ∙ sym more)
+          ((λ j. changes_of (take i items) ++ (keyed j, c.in-Ok.ensures j) ∷ []) ∙ sym more)
           (c.in_ok-add.ensures.holds now name last (changes_of (take i items)) above
           (inv.holds now name last begun));
     }

@@ -1,4 +1,4 @@
-use Rattle.std.proofs.Common.{◌≡◌, false, inr, refl, true}
+use Rattle.std.proofs.Common.{◌≡◌, ◌∙◌, Some, ap, false, inr, refl, sym, true}
 use Rattle.cell_core.specs.Entry.{EntryKey}
 use Rattle.json_docs.specs.ScanningReads.{seen}
 use Rattle.row_docs.specs.Ascending.{entry_in, own_cell_checks}
@@ -11,10 +11,11 @@ pub returns-then-not-is_after-clause-err : goal.returns-then-not-is_after-clause
 returns-then-not-is_after-clause-err g c = inr (λ start before is holds.
     let d = seen c.args.row.now in
     let version = c.args.version in
-    let own = c.in_ok-id.ensures in
-    let key : EntryKey = (c.in_ok-id.field-0.id, c.in_ok-id.field-0.lang) in
+    let own = c.in_ok-entry_of_row.ensures in
+    let made = own.1 ∙ ap Some (sym c.into_parts-id.ensures) in
+    let key : EntryKey = (c.into_parts-id.result.0, c.into_parts-id.result.1) in
     fails_row (entry_in version) (own_cell_checks version) before c.args.place d holds.cells _ _ is
-    holds.makes own.1 (key_of_cell _ _) own.0
+    holds.makes made (key_of_cell _ _) own.0
     (λ above. let never : false ≡ true = c.if-not-is_after.ensures.1
     ((above_shown _ holds.cells key holds.makes.ascending holds.last).1 above) in absurd (cc)))
 
@@ -22,7 +23,7 @@ returns-then-not-is_after-clause-err g c = inr (λ start before is holds.
 pub show-requires : goal.show-requires
 show-requires g c κs =
     let holds = c.requires.held.3 in
-    let key : EntryKey = (c.in_ok-id.field-0.id, c.in_ok-id.field-0.lang) in
+    let key : EntryKey = (c.into_parts-id.result.0, c.into_parts-id.result.1) in
     let above = (above_shown _ holds.cells key holds.makes.ascending holds.last).0
     (c.if-not-is_after.ensures.0 refl) in (
       (refl, tt),
@@ -35,12 +36,13 @@ pub returns-clause-ok : goal.returns-clause-ok
 returns-clause-ok g c = λ start before is holds.
     let d = seen c.args.row.now in
     let version = c.args.version in
-    let own = c.in_ok-id.ensures in
-    let key : EntryKey = (c.in_ok-id.field-0.id, c.in_ok-id.field-0.lang) in
+    let own = c.in_ok-entry_of_row.ensures in
+    let made = own.1 ∙ ap Some (sym c.into_parts-id.ensures) in
+    let key : EntryKey = (c.into_parts-id.result.0, c.into_parts-id.result.1) in
     let above = (above_shown _ holds.cells key holds.makes.ascending holds.last).0
     (c.if-not-is_after.ensures.0 refl) in (
       passes_row (entry_in version) (own_cell_checks version) before c.args.place d holds.cells _ _
-          is holds.makes own.1 (key_of_cell _ _) own.0 above,
-      shown_more g.S.CellSink.Holds start version c.args.self.now _ before d _ holds own.1 above
+          is holds.makes made (key_of_cell _ _) own.0 above,
+      shown_more g.S.CellSink.Holds start version c.args.self.now _ before d _ holds made above
           refl (c.in_ok-show.ensures start holds.cells holds.seen above),
     )
