@@ -63,7 +63,7 @@ build/browser/silkwaram.wasm: $(SOURCES) $(wildcard include/*) scripts/browser \
 		$(wildcard bindings/browser/* bindings/node/express.*)
 	RT='$(RT)' scripts/browser
 
-#: make test          the whole gate, from nothing: 35 to 66 minutes on four processors, by how many
+#: make test          the whole gate, from nothing: 35 to 90 minutes on four processors, by how many
 #:                    edits scripts/edits.record lacks; twice that on two
 # The program that the compiler has to refuse; every proof, from nothing where this machine has not
 # passed the same crate before, the tests and the programs; the edits that the prover has to refuse,

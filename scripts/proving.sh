@@ -13,11 +13,12 @@ kit() { # the folder of the kit that rt is of
     dirname "$(dirname "$(readlink -f "$(command -v "$rt")")")"
 }
 
-# The first line of a crate's log: a sum of the kit's name and of the crate's files.
+# The first line of a crate's log: a sum of the kit's name and of the crate's files but its edits, which
+# no proof reads.
 sum_line() { # CRATE
     {
         "$rt" version
-        find "crates/$1" -name out -prune -o -type f -print0 | LC_ALL=C sort -z | xargs -0 sha256sum
+        find "crates/$1" \( -name out -o -name must-fail \) -prune -o -type f -print0 | LC_ALL=C sort -z | xargs -0 sha256sum
     } | sha256sum | sed 's/^\([0-9a-f]*\).*/sources: \1/'
 }
 
