@@ -14,6 +14,7 @@ use Rattle.cell_core.specs.Entry.{EntryKey, key_cmp, key_cmp_total, key_cmp_exac
 use Rattle.catalogue.specs.Entries.{Entry, Entries}
 use Rattle.catalogue.specs.Entries.{Agree, joined, IsBelowCells, catalogue_laws}
 use Rattle.cata_core.specs.Delta.{summary_of, is_missing, delta_of, IsPart}
+use Rattle.catalogue.proofs.CatalogueJoinedLatestLemmas.{first_alone}
 use Rattle.catalogue.proofs.EditStampOrderLemmas.{lt_self}
 use Rattle.catalogue.proofs.EntriesFilteredLemmas.{kept_if, filter-IsMap, find-filter}
 use Rattle.cata_core.proofs.DeltaLemmas.{nothing_lost}
@@ -65,10 +66,6 @@ module _ (own sender : Entries) (m : IsMap key_cmp own) (agree : Agree own sende
   not_own (Some d) c h e = let same : d ≡ c = cc in
       true≢false (sym h ∙ ap (λ x. is_lt (stamp_cmp x.stamp c.stamp)) same ∙ lt_self c.stamp)
 
-  alone : (a : Option Cell) → joined_if_both joined_cells a None ≡ a
-  alone None = refl
-  alone (Some d) = refl
-
   -- a part that joins to the same has each cell of the delta
   pub delta_least : (part : Entries) → IsPart part sender → joined own part ≡ joined own sender
       → IsPart (delta_of sender (summary_of own)) part
@@ -92,7 +89,8 @@ module _ (own sender : Entries) (m : IsMap key_cmp own) (agree : Agree own sende
           → joined_if_both joined_cells (find key_cmp k own) o ≡ Some c
           → find key_cmp k part ≡ Some c
       at k c is None e j =
-          absurd (not_own (find key_cmp k own) c is.new (sym (alone (find key_cmp k own)) ∙ j))
+          absurd
+          (not_own (find key_cmp k own) c is.new (sym (first_alone (find key_cmp k own)) ∙ j))
       at k c is (Some d) e j = let same : Some d ≡ Some c = sym (p.of k d e) ∙ is.theirs in e ∙ same
 
   -- a delta is empty just where the receiver is above the sender
@@ -115,7 +113,7 @@ module _ (own sender : Entries) (m : IsMap key_cmp own) (agree : Agree own sende
           same_maps key_cmp key_cmp_total key_cmp_exact (joined own []) own
           (joined_maps-IsMap key_cmp key_cmp_total joined_cells own [] m tt) m
           (λ k. find-joined_maps key_cmp key_cmp_total joined_cells own [] m tt k
-          ∙ alone (find key_cmp k own))
+          ∙ first_alone (find key_cmp k own))
 
       gone : (k : EntryKey) (o : Option Cell)
           → find key_cmp k (delta_of sender (summary_of own)) ≡ o → joined sender own ≡ own

@@ -9,7 +9,7 @@ use Rattle.cell_core.specs.Keyed.{IsMap}
 use Rattle.cell_core.specs.Entry.{EntryKey, key_cmp}
 use Rattle.catalogue.specs.Entries.{Entries, IsAboveAll}
 use Rattle.cata_core.specs.Delta.{Stamps, is_missing, delta_of}
-use Rattle.cata_core.specs.DeltaSeeking.{IsBehind}
+use Rattle.cata_core.specs.DeltaSeeking.{IsRestAfter}
 use Rattle.catalogue.proofs.EntriesFilteredLemmas.{filter-IsMap}
 use Rattle.catalogue.proofs.CatalogueAboveLemmas.{front_below}
 use Rattle.cell_core.proofs.Basics.{first_part, second_part, less_than}
@@ -30,7 +30,8 @@ pub record AreMissingSoFar (all left missing : Entries) (summary rest : Stamps) 
   pub same : (q : EntryKey) → IsFromFirst q left → find key_cmp q rest ≡ find key_cmp q summary
 
 module _ (all left missing : Entries) (summary rest more : Stamps) (k : EntryKey) (c : Cell)
-    (h : AreMissingSoFar all ((k, c) ∷ left) missing summary rest) (s : IsBehind k rest more) where
+    (h : AreMissingSoFar all ((k, c) ∷ left) missing summary rest)
+    (s : IsRestAfter k rest more) where
   later : (q : EntryKey) → IsFromFirst q left → key_cmp k q ≡ Less
   later q = elim left as (λ l. IsMap key_cmp ((k, c) ∷ l) → IsFromFirst q l → key_cmp k q ≡ Less) [
     | [] ↦ λ m f. absurd f

@@ -8,8 +8,8 @@ use Rattle.std.specs.FinMap.Entries.{find}
 use Rattle.cell_core.specs.declared.cell.Cell.{Cell}
 use Rattle.cell_core.specs.declared.stamp.Stamp.{Stamp}
 use Rattle.cell_core.specs.Stamp.{stamp_cmp}
-use Rattle.cell_core.specs.Cell.{AgreeStamps, joined_stamps, joined_cells}
-use Rattle.cell_core.specs.Keyed.{IsMap, AgreeIfBoth, joined_maps, joined_if_both}
+use Rattle.cell_core.specs.Cell.{joined_stamps, joined_cells}
+use Rattle.cell_core.specs.Keyed.{IsMap, joined_maps, joined_if_both}
 use Rattle.cell_core.specs.KeyedLaws.{joined_maps-IsMap}
 use Rattle.cell_core.specs.KeyedLaws.{find-joined_maps, same_maps}
 use Rattle.cell_core.specs.Entry.{EntryKey, key_cmp, key_cmp_total, key_cmp_exact}
@@ -17,6 +17,7 @@ use Rattle.catalogue.specs.Entries.{Entry, Entries}
 use Rattle.catalogue.specs.Entries.{joined, IsBelowCells}
 use Rattle.catalogue.specs.Edits.{catalogue_of}
 use Rattle.cata_core.specs.Delta.{Stamps, summary_of, HasAll, HasAtLeast, IsBelowStamps}
+use Rattle.catalogue.proofs.CatalogueLatestLemmas.{always}
 use Rattle.catalogue.proofs.Basics.{not_less_of}
 use Rattle.catalogue.proofs.EditStampOrderLemmas.{not_less_self, not_less_back, not_less_trans}
 use Rattle.catalogue.proofs.EditStampOrderLemmas.{same_stamp}
@@ -80,11 +81,6 @@ below_if_has own summary m n has = (
       ∙ sym (find-summary_of k own)),
 )
   where
-    always : (a b : Option Stamp) → AgreeIfBoth AgreeStamps a b
-    always None b = tt
-    always (Some s) None = tt
-    always (Some s) (Some t) = tt
-
     higher : (a : Option Stamp) (c : Option Cell) → ((s : Stamp) → a ≡ Some s → HasAtLeast c s)
         → joined_if_both joined_stamps a (stamp_if c) ≡ stamp_if c
     higher None c h = refl

@@ -9,8 +9,8 @@ use Rattle.std.specs.Cmp.{tied_itself}
 use Rattle.std.specs.FinMap.Entries.{find, is_sorted, below_all}
 use Rattle.cell_core.specs.Keyed.{IsMap}
 use Rattle.cell_core.specs.Entry.{EntryKey, key_cmp, key_cmp_total, key_cmp_exact}
-use Rattle.catalogue.proofs.EntriesFilteredLemmas.{find-below}
-use Rattle.catalogue.proofs.PlacesKeyLemmas.{below_lesser}
+use Rattle.lang_core.proofs.Basics.{less_of}
+use Rattle.cell_core.proofs.KeyedPlacesLemmas.{find-below, below-trans}
 use Rattle.cell_core.proofs.Basics.{first_part, both_parts}
 
 turned : (r : Ordering) → is_eq r ≡ is_eq (ordering_reverse r)
@@ -40,7 +40,7 @@ first_absent key k v es m from apart =
     sym (find-below key_cmp key ((k, v) ∷ es)
     (both_parts (is_lt (key_cmp key k)) (below_all key_cmp key es)
     (subst (λ r. T (is_lt r)) (sym less) tt)
-    (below_lesser key_cmp key_cmp_total key k es less
+    (below-trans key_cmp key_cmp_total key k es less
     (first_part (below_all key_cmp k es) (is_sorted key_cmp es) m))))
 
 -- Dropping a first entry with a smaller key changes nothing from the key on.
@@ -51,12 +51,7 @@ passed key k v es lt q from =
     ap (λ b. cond b (Some v) (find key_cmp q es)) (sym (apart (key_cmp key q) refl))
   where
     less : key_cmp k key ≡ Less
-    less = lesser (key_cmp k key) lt
-      where
-        lesser : (r : Ordering) → is_lt r ≡ true → r ≡ Less
-        lesser Less e = refl
-        lesser Equal e = absurd (true≢false (sym e))
-        lesser Greater e = absurd (true≢false (sym e))
+    less = less_of (key_cmp k key) lt
 
     back : (r : Ordering) → key_cmp k q ≡ Less → is_eq (key_cmp q k) ≡ false
     back r e = ap is_eq (key_cmp_total.antisymm q k ∙ ap ordering_reverse e)

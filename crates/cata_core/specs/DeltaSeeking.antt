@@ -7,6 +7,6 @@ use Rattle.cell_core.specs.Entry.{EntryKey, key_cmp}
 use Rattle.cata_core.specs.Delta.{Stamps}
 
 -- after this key, the rest has what all of them have
-pub record IsBehind (key : EntryKey) (all rest : Stamps) : Type 0 where
+pub record IsRestAfter (key : EntryKey) (all rest : Stamps) : Type 0 where
   pub sorted : IsMap key_cmp rest
   pub same : (q : EntryKey) → key_cmp key q ≡ Less → find key_cmp q rest ≡ find key_cmp q all

@@ -1,28 +1,16 @@
 -- When summaries are equal.
 use Rattle.std.specs.Prelude.{Bool, nat_eq}
 use Rattle.std.specs.Ordering.{eq_by_cmp, on, eq_of_both}
-use Rattle.std.specs.Cmp.{IsEquivalence, eq_by_cmp_equiv, and_equiv, on_equiv, nat_eq_equiv}
+use Rattle.std.specs.Cmp.{IsEquivalence, eq_by_cmp_equiv, and_equiv, on_equiv}
 use Rattle.std.specs.Cmp.Lexicographic.{pointwise, on_texts_equal, lists_equiv}
 use Rattle.cell_core.specs.declared.stamp.Stamp.{Stamp}
 use Rattle.cell_core.specs.Entry.{EntryKey, key_cmp, key_cmp_total}
+use Rattle.cell_core.specs.StampEq.{stamp_eq, stamp_equiv}
 use Rattle.cata_core.specs.Summary.{SummaryState}
-
--- one time, one site and one count
-abbrev pub stamp_eq : Stamp → Stamp → Bool
-stamp_eq =
-    eq_of_both (on (λ s. s.time) nat_eq)
-    (eq_of_both (on (λ s. s.site) (pointwise nat_eq)) (on (λ s. s.count) nat_eq))
 
 -- one key with one stamp
 abbrev pub summary_entry_eq : EntryKey × Stamp → EntryKey × Stamp → Bool
 summary_entry_eq = eq_of_both (on (λ e. e.0) (eq_by_cmp key_cmp)) (on (λ e. e.1) stamp_eq)
-
--- equality of stamps is an equivalence
-pub stamp_equiv : IsEquivalence stamp_eq
-stamp_equiv =
-    and_equiv (on_equiv (λ (s : Stamp). s.time) nat_eq_equiv)
-    (and_equiv (on_texts_equal (λ (s : Stamp). s.site))
-    (on_equiv (λ (s : Stamp). s.count) nat_eq_equiv))
 
 -- equality of a summary's entries is an equivalence
 pub summary_entry_equiv : IsEquivalence summary_entry_eq

@@ -5,7 +5,7 @@ ghost use Rattle.std.specs.FinMap.Entries.{find};
 ghost use Rattle.cell_core.specs.Keyed.{IsMap};
 ghost use Rattle.cata_core.specs.Delta.{delta_of, is_missing};
 ghost use Rattle.cell_core.specs.Entry.{key_cmp};
-ghost use Rattle.cata_core.specs.DeltaSeeking.{IsBehind};
+ghost use Rattle.cata_core.specs.DeltaSeeking.{IsRestAfter};
 
 use crate::summary::Summary;
 use catalogue::Catalogue;
@@ -90,7 +90,7 @@ fn stamp_at<'a>(
 ) -> (Option<Stamp>, &'a [Entry<Stamp>])
     requires { IsMap key_cmp entries.now }
     ensures stamp { result.0 ≡ find key_cmp (id.now, lang.now) entries.now }
-    ensures rest { IsBehind (id.now, lang.now) entries.now result.1.now }
+    ensures rest { IsRestAfter (id.now, lang.now) entries.now result.1.now }
 {
     let mut rest = entries;
     while let Some((first, more)) = rest.split_first() {

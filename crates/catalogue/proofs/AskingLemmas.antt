@@ -17,7 +17,7 @@ use Rattle.catalogue.specs.Live.{Labelled, live, languages, is_live}
 use Rattle.catalogue.specs.Asking.{Weighed, picked, Finds, IsFilterAnswer, IsLookedUpIn}
 use Rattle.catalogue.specs.Asking.{IsLookupAnswer, IsLookupAnswerBy}
 use Rattle.catalogue.proofs.Basics.{some_same}
-use Rattle.catalogue.proofs.ReplyLemmas.{joined-pieces}
+use Rattle.lang_core.proofs.PiecesLemmas.{joined-pieces}
 
 -- texts with the same pieces are one
 same_text : (x y : List ℕ) → pieces x ≡ pieces y → x ≡ y

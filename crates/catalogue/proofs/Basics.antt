@@ -10,10 +10,6 @@ use Rattle.lang_core.proofs.Basics.{less_of, is_false as false_if}
 
 -- ---- tests
 
--- The conjunction of two true tests is true.
-pub both_so : (a b : Bool) → a ≡ true → b ≡ true → (a && b) ≡ true
-both_so a b p q = ap (λ t. t && b) p ∙ q
-
 -- Where a conjunction is true, its first test is true.
 pub first_so : (a b : Bool) → (a && b) ≡ true → a ≡ true
 first_so true b p = refl
@@ -33,12 +29,6 @@ not_lt r h = false_if (is_lt r) (λ e. h (less_of r e))
 -- A comparison that does not test as less is not `Less`.
 pub not_less_of : (r : Ordering) → is_lt r ≡ false → r ≡ Less → ⊥
 not_less_of r e less = true≢false (sym (ap is_lt less) ∙ e)
-
--- A comparison that is less neither as it is nor reversed is `Equal`.
-pub level_of : (r : Ordering) → is_lt r ≡ false → is_lt (ordering_reverse r) ≡ false → r ≡ Equal
-level_of Less e f = absurd (true≢false e)
-level_of Equal e f = refl
-level_of Greater e f = absurd (true≢false f)
 
 -- A reversed comparison is greater exactly where the comparison is less.
 pub turned_gt : (r : Ordering) → is_gt (ordering_reverse r) ≡ is_lt r
@@ -62,6 +52,13 @@ some_same x y e = cc
 pub append_nil : {X : Type 0} (xs : List X) → xs ++ [] ≡ xs
 append_nil [] = refl
 append_nil (x ∷ xs) = ap (λ ys. x ∷ ys) (append_nil xs)
+
+-- A place in the first of two lists that are appended is one in that list.
+pub slice_get-front : {X : Type 0} (xs ys : List X) (n : ℕ) → n < length xs
+    → slice_get (xs ++ ys) n ≡ slice_get xs n
+slice_get-front [] ys n lt = absurd (omega (arith, lt))
+slice_get-front (x ∷ xs) ys zero lt = refl
+slice_get-front (x ∷ xs) ys (suc n) lt = slice_get-front xs ys n (omega (arith, lt))
 
 -- Each place within a list has an element.
 pub there : {X : Type 0} (xs : List X) (i : ℕ) → i < length xs → slice_get xs i ≡ None → ⊥

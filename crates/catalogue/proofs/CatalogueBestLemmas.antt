@@ -10,9 +10,9 @@ use Rattle.cell_core.specs.Stamp.{stamp_cmp}
 use Rattle.cell_core.specs.Entry.{EntryKey, key_cmp, key_cmp_total, key_cmp_exact}
 use Rattle.catalogue.specs.Entries.{Entry}
 use Rattle.catalogue.specs.Edits.{IsBest, is_beaten_by, is_best}
-use Rattle.lang_core.proofs.Basics.{is_false as false_if, true_not as not_true, less_of}
+use Rattle.lang_core.proofs.Basics.{both, is_false as false_if, true_not as not_true, less_of}
 use Rattle.cell_core.proofs.Basics.{tied_order as tied}
-use Rattle.catalogue.proofs.Basics.{both_so, first_so, second_so}
+use Rattle.catalogue.proofs.Basics.{first_so, second_so}
 use Rattle.catalogue.proofs.EditStampOrderLemmas.{not_less_trans, not_less_self, not_less_back}
 use Rattle.catalogue.proofs.CatalogueMembersLemmas.{In, in_from_Contains, Contains-from_in, all_in}
 use Rattle.catalogue.proofs.CatalogueMembersLemmas.{in_all}
@@ -33,7 +33,7 @@ pub best_is : (xs : List Entry) (k : EntryKey) (c : Cell) → In xs (k, c) → i
 best_is xs k c member best = record {
   member = Contains-from_in xs (k, c) member;
   greatest = λ d has less. true≢false
-      (sym (both_so (eq_by_cmp key_cmp k k) (is_lt (stamp_cmp c.stamp d.stamp)) (own_key k)
+      (sym (both (eq_by_cmp key_cmp k k) (is_lt (stamp_cmp c.stamp d.stamp)) (own_key k)
       (ap is_lt less))
       ∙ not_true (is_beaten_by (k, c) (k, d))
       (all_in (λ f. not (is_beaten_by (k, c) f)) xs best (k, d)
@@ -115,7 +115,7 @@ top (e ∷ es) k c =
           | inl s ↦
               λ less.
               true≢false
-              (sym (both_so (eq_by_cmp key_cmp k e.0) (is_lt (stamp_cmp t.cell.stamp e.1.stamp))
+              (sym (both (eq_by_cmp key_cmp k e.0) (is_lt (stamp_cmp t.cell.stamp e.1.stamp))
               (subst (λ (x : Entry). eq_by_cmp key_cmp k x.0 ≡ true) (sym s) (own_key k))
               (ap (λ (x : Entry). is_lt (stamp_cmp t.cell.stamp x.1.stamp)) s ∙ ap is_lt less))
               ∙ b)

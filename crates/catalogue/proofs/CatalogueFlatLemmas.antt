@@ -21,8 +21,7 @@ use Rattle.cell_core.proofs.JoinAbsentLemmas.{joined_with_none}
 use Rattle.cell_core.proofs.Basics.{first_part, second_part, both_parts, less_than}
 use Rattle.cell_core.proofs.Basics.{tied_order as tied}
 use Rattle.catalogue.proofs.Basics.{apart_first, some_same}
-use Rattle.catalogue.proofs.EntriesFilteredLemmas.{find-below}
-use Rattle.catalogue.proofs.PlacesKeyLemmas.{find-at}
+use Rattle.cell_core.proofs.KeyedPlacesLemmas.{find-below, find-at}
 
 -- A value or none is the value.
 pub or_none : {X : Type 0} (o : Option X) → option_or o None ≡ o

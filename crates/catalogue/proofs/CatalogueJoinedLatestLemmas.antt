@@ -18,7 +18,7 @@ use Rattle.catalogue.specs.Entries.{catalogue_laws}
 use Rattle.catalogue.specs.CatalogueLatest.{latest_of}
 use Rattle.cell_core.proofs.Basics.{first_part, second_part}
 use Rattle.catalogue.proofs.Basics.{some_same}
-use Rattle.catalogue.proofs.EntriesFilteredLemmas.{find-below}
+use Rattle.cell_core.proofs.KeyedPlacesLemmas.{find-below}
 use Rattle.catalogue.proofs.CatalogueLatestLemmas.{always, latest_assoc, latest_with_none}
 
 abbrev both : Option Stamp → Option Stamp → Option Stamp

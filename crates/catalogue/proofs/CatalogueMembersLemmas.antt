@@ -3,7 +3,8 @@ use Rattle.std.proofs.Common.{◌≡◌, ℕ, zero, suc, ◌<◌, Bool, true, fa
 use Rattle.std.proofs.Common.{◌⊎◌, length, get_or, inl, inr, refl, sym, ap, ◌∙◌, subst, arith}
 use Rattle.std.specs.Prelude.{Contains, filter}
 use Rattle.std.specs.List.{list_all}
-use Rattle.catalogue.proofs.Basics.{both_so, first_so, second_so}
+use Rattle.lang_core.proofs.Basics.{both}
+use Rattle.catalogue.proofs.Basics.{first_so, second_so}
 
 -- x is the first element, or one of the rest
 abbrev pub In : {X : Type 0} → List X → X → Type 0
@@ -96,4 +97,4 @@ pub in_all : {X : Type 0} (p : X → Bool) (xs : List X) → ((x : X) → In xs 
     → list_all p xs ≡ true
 in_all p [] h = refl
 in_all p (y ∷ ys) h =
-    both_so (p y) (list_all p ys) (h y (inl refl)) (in_all p ys (λ x k. h x (inr k)))
+    both (p y) (list_all p ys) (h y (inl refl)) (in_all p ys (λ x k. h x (inr k)))

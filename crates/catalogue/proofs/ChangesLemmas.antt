@@ -13,7 +13,8 @@ use Rattle.std.proofs.lemmas.Bool.Decides.{Decides-and, Decides-like}
 use Rattle.cell_core.specs.declared.cell.Cell.{Cell}
 use Rattle.cell_core.specs.Keyed.{IsMap}
 use Rattle.cell_core.specs.KeyedLaws.{same_maps}
-use Rattle.cell_core.proofs.CellLemmas.{stamp_eq, stamp_decides, label_decides}
+use Rattle.cell_core.specs.StampEq.{stamp_eq}
+use Rattle.cell_core.proofs.CellLemmas.{stamp_decides, label_decides}
 use Rattle.catalogue.specs.Changes.{Sides, Changed, is_same, change_of, AreChanges, AreMade}
 use Rattle.catalogue.specs.Changes.{made_at, exchanged}
 use Rattle.catalogue.specs.ChangesLeft.{only_after, only_before, by_order, beside_from}
@@ -25,16 +26,17 @@ use Rattle.catalogue.specs.CatalogueParts.{part_of}
 use Rattle.cell_core.proofs.Basics.{both_parts, first_part, second_part, tied_order as tied}
 use Rattle.lang_core.proofs.Basics.{is_false as false_if}
 use Rattle.catalogue.proofs.Basics.{some_same}
-use Rattle.catalogue.proofs.EntriesFilteredLemmas.{find-below, below_tied_all, filter-IsMap}
+use Rattle.cell_core.proofs.KeyedPlacesLemmas.{find-below, below_tied, below-trans}
+use Rattle.catalogue.proofs.EntriesFilteredLemmas.{filter-IsMap}
 use Rattle.catalogue.proofs.EntriesFilteredLemmas.{find-filter}
 use Rattle.catalogue.proofs.EntriesFilteredLemmas.{kept_if}
-use Rattle.catalogue.proofs.PlacesKeyLemmas.{below_lesser}
 use Rattle.catalogue.proofs.ChangesMappedLemmas.{find-mapped, mapped-IsMap}
 use Rattle.catalogue.proofs.CataloguePartsLemmas.{find-part}
 
 -- ---- equal cells
 
-cell_decides : (c d : Cell) → Decides (cell_eq c d) (c ≡ d)
+-- Two cells are the same just where the comparison says so.
+pub cell_decides : (c d : Cell) → Decides (cell_eq c d) (c ≡ d)
 cell_decides c d =
     Decides-like (cell_eq c d) (λ parts i. record { stamp = parts.0 i; label = parts.1 i })
     (λ same. (ap (λ x. x.stamp) same, ap (λ x. x.label) same))
@@ -123,7 +125,7 @@ below_first : (x : EntryKey) (e : Entry) (es : Entries) → key_cmp x e.0 ≡ Le
     → IsMap key_cmp (e ∷ es) → T (below_all key_cmp x (e ∷ es))
 below_first x e es r m =
     low x e es (subst (λ o. T (is_lt o)) (sym r) tt)
-    (below_lesser key_cmp key_cmp_total x e.0 es r (head_of e es m))
+    (below-trans key_cmp key_cmp_total x e.0 es r (head_of e es m))
 
 -- nothing is found at a key that ties with one that is below the first
 none_below : (k x : EntryKey) (e : Entry) (es : Entries) → eq_by_cmp key_cmp k x ≡ true
@@ -131,7 +133,7 @@ none_below : (k x : EntryKey) (e : Entry) (es : Entries) → eq_by_cmp key_cmp k
 none_below k x e es t r m =
     let under = below_first x e es r m in
     find-below key_cmp k (e ∷ es)
-    (below_tied_all key_cmp key_cmp_total k x (e ∷ es) (tied (key_cmp k x) t) under)
+    (below_tied key_cmp key_cmp_total k x (e ∷ es) (tied (key_cmp k x) t) under)
 
 turned : (x y : EntryKey) → key_cmp x y ≡ Greater → key_cmp y x ≡ Less
 turned x y r = key_cmp_total.antisymm y x ∙ ap ordering_reverse r
@@ -245,7 +247,7 @@ beside_ascends e es m of_rest (a ∷ others) n =
           (of_rest (a ∷ others) n)
       | Equal ↦ λ r. ascends both less
           (below_sides e.0 es others under
-          (below_tied_all key_cmp key_cmp_total e.0 a.0 others r (head_of a others n)))
+          (below_tied key_cmp key_cmp_total e.0 a.0 others r (head_of a others n)))
           (of_rest others later)
       | Greater ↦ λ r.
           let first = below_first a.0 e es (turned e.0 a.0 r) m in

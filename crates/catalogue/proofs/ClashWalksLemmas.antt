@@ -21,7 +21,7 @@ use Rattle.catalogue.specs.Entries.{Entry, Agree}
 use Rattle.catalogue.specs.CatalogueFlat.{under, flat, found_in}
 use Rattle.catalogue.specs.CatalogueNested.{Inner, Nested, IsCatalogue, IsCountable}
 use Rattle.catalogue.specs.Clash.{AgreesAt, IsFirstClash}
-use Rattle.catalogue.proofs.Basics.{some_same}
+use Rattle.catalogue.proofs.Basics.{slice_get-front, some_same}
 use Rattle.catalogue.proofs.CatalogueFlatLemmas.{find-flat}
 use Rattle.catalogue.proofs.CatalogueNestedLemmas.{IsMap-catalogue}
 use Rattle.catalogue.proofs.PlacesKeyLemmas.{stands_at_place}
@@ -63,18 +63,7 @@ module _ {X : Type 0} where
   drop_none (x ∷ xs) zero = λ is. absurd (cc)
   drop_none (x ∷ xs) (suc n) = λ is. omega (arith, drop_none xs n is)
 
-  slice_get-front : (xs ys : List X) (n : ℕ) → n < length xs
-      → slice_get (xs ++ ys) n ≡ slice_get xs n
-  slice_get-front [] ys n lt = absurd (omega (arith, lt))
-  slice_get-front (x ∷ xs) ys zero lt = refl
-  slice_get-front (x ∷ xs) ys (suc n) lt = slice_get-front xs ys n (omega (arith, lt))
-
 -- ---- how far two maps agree
-
--- whatever the entry at a place and the other map have at its key agrees
-abbrev AgreesIn : {K : Type 0} → (K → K → Ordering) → List (K × Cell) → List (K × Cell) → ℕ → Type 0
-AgreesIn {K} cmp xs other j =
-    (k : K) (c d : Cell) → slice_get xs j ≡ Some (k, c) → find cmp k other ≡ Some d → AgreeCells c d
 
 -- the first `front` entries agree, and these are left
 pub record IsAgreed {K : Type 0} (cmp : K → K → Ordering) (own other left : List (K × Cell))
@@ -91,7 +80,7 @@ module _ {K : Type 0} (cmp : K → K → Ordering) (own other : List (K × Cell)
 
   -- some more that agree
   pub agreed_more : (xs left : List (K × Cell)) (n : ℕ) → IsAgreed cmp own other (xs ++ left) n
-      → ((j : ℕ) → j < length xs → AgreesIn cmp xs other j)
+      → ((j : ℕ) → j < length xs → AgreesAt cmp xs other j)
       → IsAgreed cmp own other left (n + length xs)
   agreed_more xs left n h agree = record {
     rest = drop_behind own n xs left h.rest;
@@ -123,7 +112,7 @@ module _ {K : Type 0} (cmp : K → K → Ordering) (own other : List (K × Cell)
   -- the first that does not
   pub clash_in : (xs left : List (K × Cell)) (n at : ℕ) (k : K) (c d : Cell) (stamp : Stamp)
       → IsAgreed cmp own other (xs ++ left) n → at < length xs
-      → ((j : ℕ) → j < at → AgreesIn cmp xs other j)
+      → ((j : ℕ) → j < at → AgreesAt cmp xs other j)
       → slice_get xs at ≡ Some (k, c) → find cmp k other ≡ Some d → ¬ (AgreeCells c d)
       → c.stamp ≡ stamp → IsFirstClash cmp own other (n + at) stamp
   clash_in xs left n at k c d stamp h within agree there found differ has = record {
@@ -202,7 +191,7 @@ module _ (own other : Nested) (id : List ℕ) (cells : Inner) (left : Nested) (n
   agrees_under : (j : ℕ)
       → ((l : List ℕ) (x y : Cell) → slice_get cells j ≡ Some (l, x)
       → found_in text_cmp l (find text_cmp id other) ≡ Some y → AgreeCells x y)
-      → AgreesIn key_cmp (under id cells) (flat other) j
+      → AgreesAt key_cmp (under id cells) (flat other) j
   agrees_under j agree =
       λ q c d at found. in_message (slice_get cells j) q c d agree
       (sym (slice_get-map (with_outer id) cells j) ∙ at)

@@ -6,7 +6,8 @@ use Rattle.std.specs.Cmp.{upto, tied_itself}
 use Rattle.cell_core.specs.declared.stamp.Stamp.{Stamp}
 use Rattle.cell_core.specs.Stamp.{stamp_cmp}
 use Rattle.cell_core.specs.Cell.{stamp_cmp_total, stamp_cmp_exact}
-use Rattle.catalogue.proofs.Basics.{not_lt, not_less_of, level_of, turned_gt}
+use Rattle.lang_core.proofs.Basics.{level_of}
+use Rattle.catalogue.proofs.Basics.{not_lt, not_less_of, turned_gt}
 
 -- That one stamp does not test as less than another is transitive.
 pub not_lt_trans : (a b c : Stamp) → is_lt (stamp_cmp a b) ≡ false → is_lt (stamp_cmp b c) ≡ false

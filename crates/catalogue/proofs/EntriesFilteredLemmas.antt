@@ -4,32 +4,12 @@ use Rattle.std.proofs.Common.{sym, ap, ◌∙◌, subst}
 use Rattle.std.specs.Prelude.{filter, T}
 use Rattle.std.specs.declared.cmp.Ordering.{Ordering}
 use Rattle.std.specs.declared.cmp.Ordering.TheVariants.{Equal}
-use Rattle.std.specs.Ordering.{is_lt, is_eq, eq_by_cmp}
+use Rattle.std.specs.Ordering.{is_lt, eq_by_cmp}
 use Rattle.std.specs.Cmp.{IsTotalOrder}
 use Rattle.std.specs.FinMap.Entries.{find, is_sorted, below_all}
 use Rattle.cell_core.specs.Keyed.{IsMap}
 use Rattle.cell_core.proofs.Basics.{first_part, second_part, both_parts, tied_order as tied}
-use Rattle.cell_core.proofs.Basics.{less_than}
-
--- nothing is found below all
-pub find-below : {K J : Type 0} (cmp : K → K → Ordering) (x : K) (es : List (K × J))
-    → T (below_all cmp x es) → find cmp x es ≡ None
-find-below cmp x [] h = refl
-find-below cmp x (e ∷ es) h =
-    let less = less_than (cmp x e.0) (first_part (is_lt (cmp x e.0)) (below_all cmp x es) h) in
-    (λ i. cond (is_eq (less i)) (Some e.1) (find cmp x es))
-    ∙ find-below cmp x es (second_part (is_lt (cmp x e.0)) (below_all cmp x es) h)
-
--- a key tied to one that is below all
-pub below_tied_all : {K J : Type 0} (cmp : K → K → Ordering) → IsTotalOrder cmp
-    → (x y : K) (es : List (K × J)) → cmp x y ≡ Equal → T (below_all cmp y es)
-    → T (below_all cmp x es)
-below_tied_all cmp total x y [] p h = tt
-below_tied_all cmp total x y (e ∷ es) p h =
-    both_parts (is_lt (cmp x e.0)) (below_all cmp x es)
-    (subst (λ r. T (is_lt r)) (sym (total.congr x y e.0 p))
-    (first_part (is_lt (cmp y e.0)) (below_all cmp y es) h))
-    (below_tied_all cmp total x y es p (second_part (is_lt (cmp y e.0)) (below_all cmp y es) h))
+use Rattle.cell_core.proofs.KeyedPlacesLemmas.{find-below}
 
 -- the value where it passes
 abbrev pub kept_if : {X : Type 0} → (X → Bool) → Option X → Option X

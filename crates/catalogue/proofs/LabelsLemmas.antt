@@ -17,7 +17,7 @@ use Rattle.cell_core.specs.KeyedFound.{with_key}
 use Rattle.catalogue.specs.Live.{of_message, labelled, live_of, live}
 use Rattle.cell_core.proofs.Basics.{first_part, second_part, tied_order as tied}
 use Rattle.catalogue.proofs.Basics.{append_nil, some_same}
-use Rattle.catalogue.proofs.EntriesFilteredLemmas.{find-below, below_tied_all}
+use Rattle.cell_core.proofs.KeyedPlacesLemmas.{find-below, below_tied}
 
 -- ---- the cells of a message
 
@@ -55,7 +55,7 @@ of_message-flat id (e ∷ es) sorted =
       | true ↦ λ t.
           let none =
           find-below text_cmp id es
-          (below_tied_all text_cmp nat_list_cmp_total id e.0 es (tied (text_cmp id e.0) t)
+          (below_tied text_cmp nat_list_cmp_total id e.0 es (tied (text_cmp id e.0) t)
           below) in
           of_under_same id e.0 e.1 (flat es) t ∙ ap (λ xs. e.1 ++ xs) (rest ∙ ap inner_of none)
           ∙ append_nil e.1
@@ -90,7 +90,7 @@ find-live_of q (e ∷ es) sorted =
       | true ↦ λ t.
           let none =
           find-below text_cmp q es
-          (below_tied_all text_cmp nat_list_cmp_total q e.0 es (tied (text_cmp q e.0) t) below)
+          (below_tied text_cmp nat_list_cmp_total q e.0 es (tied (text_cmp q e.0) t) below)
           in
           elim e.1.label as
           (λ o. find text_cmp q

@@ -32,7 +32,7 @@ use Rattle.catalogue.specs.Live.{Labelled, languages, is_live}
 use Rattle.lang_core.proofs.Basics.{is_false as false_if}
 use Rattle.cell_core.proofs.Basics.{tied_order as tied}
 use Rattle.catalogue.proofs.CatalogueNestedLemmas.{text_exact}
-use Rattle.catalogue.proofs.ReplyLemmas.{joined-pieces}
+use Rattle.lang_core.proofs.PiecesLemmas.{joined-pieces}
 
 -- ---- which texts are live
 

@@ -23,7 +23,7 @@ use Rattle.catalogue.specs.Messages.{with_live, live_messages}
 use Rattle.catalogue.specs.CatalogueNested.{Inner, Nested, IsCatalogue}
 use Rattle.cell_core.proofs.Basics.{first_part, second_part, both_parts, tied_order as tied}
 use Rattle.catalogue.proofs.Basics.{some_same}
-use Rattle.catalogue.proofs.EntriesFilteredLemmas.{find-below, below_tied_all}
+use Rattle.cell_core.proofs.KeyedPlacesLemmas.{find-below, below_tied}
 use Rattle.catalogue.proofs.CatalogueFlatLemmas.{found_inner}
 use Rattle.catalogue.proofs.LabelsLemmas.{live-flat}
 use Rattle.catalogue.proofs.CatalogueNestedLemmas.{text_exact}
@@ -77,7 +77,7 @@ find-live_messages q (e ∷ es) sorted =
       | true ↦ λ t.
           let none =
           find-below text_cmp q es
-          (below_tied_all text_cmp nat_list_cmp_total q e.0 es (tied (text_cmp q e.0) t) below)
+          (below_tied text_cmp nat_list_cmp_total q e.0 es (tied (text_cmp q e.0) t) below)
           in
           elim (if_any (live_of e.1)) as
           (λ o. find text_cmp q

@@ -1,6 +1,6 @@
 -- Where cells are in a map of maps: what a walk has passed, and what is left.
 use Rattle.std.proofs.Common.{◌≡◌, ℕ, zero, suc, ◌+◌, ◌*◌, ◌<◌, ◌≤◌, List, [], ◌∷◌, ◌++◌, length}
-use Rattle.std.proofs.Common.{cond, refl, sym, ap, ◌∙◌, subst, arith}
+use Rattle.std.proofs.Common.{cond, sym, ap, ◌∙◌, subst, arith}
 use Rattle.std.specs.Prelude.{T, slice_get}
 use Rattle.std.specs.Option.{option_map}
 use Rattle.std.proofs.lemmas.Option.{slice_get-map}
@@ -16,7 +16,9 @@ use Rattle.cell_core.specs.Entry.{EntryKey, pair_cmp, text_cmp, key_cmp}
 use Rattle.catalogue.specs.CatalogueFlat.{under, flat}
 use Rattle.catalogue.specs.CatalogueNested.{Inner, Nested, IsCountable}
 use Rattle.cell_core.proofs.Basics.{first_part, second_part}
-use Rattle.catalogue.proofs.PlacesKeyLemmas.{below_lesser, below_tied_all, place_of-below}
+use Rattle.catalogue.proofs.Basics.{slice_get-front}
+use Rattle.cell_core.proofs.KeyedPlacesLemmas.{below_tied, below-trans}
+use Rattle.catalogue.proofs.PlacesKeyLemmas.{place_of-below}
 use Rattle.catalogue.proofs.CatalogueFlatLemmas.{below_flat}
 use Rattle.catalogue.proofs.CatalogueLengthsLemmas.{length-under, length-flat-cons}
 
@@ -63,7 +65,7 @@ module _ {K L J : Type 0} (P : K → K → Ordering) (Q : L → L → Ordering) 
     place_of-less p =
         under_less k q cells (flat es) p
         (place_of-below (pair_cmp P Q) q (flat es)
-        (below_flat P Q tp q es (below_lesser P tp q.0 k es p below)))
+        (below_flat P Q tp q es (below-trans P tp q.0 k es p below)))
 
     -- a key of the first message has its place among that message's cells
     pub place_of-same : P q.0 k ≡ Equal
@@ -71,7 +73,7 @@ module _ {K L J : Type 0} (P : K → K → Ordering) (Q : L → L → Ordering) 
     place_of-same p =
         under_same k q cells (flat es) p
         (place_of-below (pair_cmp P Q) q (flat es)
-        (below_flat P Q tp q es (below_tied_all P tp q.0 k es p below)))
+        (below_flat P Q tp q es (below_tied P tp q.0 k es p below)))
 
     -- a key of a later message has its place after the first message's cells
     pub place_of-greater : P q.0 k ≡ Greater
@@ -86,12 +88,6 @@ pub record IsInFront (m left : Nested) (key : EntryKey) (total : ℕ) : Type 0 w
   pub place : total + place_of key_cmp key (flat left) ≡ place_of key_cmp key (flat m)
 
 -- ---- the entry at a place
-
-slice_get-left : {X : Type 0} (xs ys : List X) (n : ℕ) → n < length xs
-    → slice_get (xs ++ ys) n ≡ slice_get xs n
-slice_get-left [] ys n lt = absurd (omega (arith, lt))
-slice_get-left (x ∷ xs) ys zero lt = refl
-slice_get-left (x ∷ xs) ys (suc n) lt = slice_get-left xs ys n (omega (arith, lt))
 
 slice_get-right : {X : Type 0} (xs ys : List X) (n m : ℕ) → length xs + m ≡ n
     → slice_get (xs ++ ys) n ≡ slice_get ys m
@@ -109,7 +105,7 @@ module _ {K L J : Type 0} where
       → at < length cells
       → slice_get (flat ((k, cells) ∷ es)) at ≡ option_map (with_outer k) (slice_get cells at)
   place_within k cells es at lt =
-      slice_get-left (under k cells) (flat es) at
+      slice_get-front (under k cells) (flat es) at
       (subst (λ n. at < n) (sym (length-under k cells)) lt)
       ∙ slice_get-map (with_outer k) cells at
 

@@ -5,17 +5,10 @@ use Rattle.std.specs.Prelude.{IsTrue}
 use Rattle.std.specs.Borrow.{Bor}
 use Rattle.std.specs.Option.{is_some}
 use Rattle.std.specs.FinMap.Entries.{find}
-use Rattle.std.proofs.lemmas.List.Splits.{join_with_byte-slice_split}
-use Rattle.lang_core.specs.Text.{pieces_by, pieces, joined}
 use Rattle.cell_core.specs.Entry.{text_cmp}
 use Rattle.cell_core.specs.KeyedFound.{with_key}
 use Rattle.catalogue.specs.ReplyBorrowed.{lent_pair}
 use Rattle.catalogue.specs.Live.{Labelled, is_live}
-
--- Splitting a text at its hyphens and joining the pieces gives the text back.
-pub joined-pieces : (text : List ℕ) → joined (pieces text) ≡ text
-unfolding pieces_by
-joined-pieces text = join_with_byte-slice_split 45 text
 
 nothing_of : {K J : Type 0} (k : K) (o : Option J) → None ≡ with_key k o → o ≡ None
 nothing_of k None = λ e. refl

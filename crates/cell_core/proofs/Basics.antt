@@ -4,14 +4,7 @@ use Rattle.std.proofs.Common.{true≢false}
 use Rattle.std.specs.Prelude.{T, ◌&&◌}
 use Rattle.std.specs.declared.cmp.Ordering.{Ordering}
 use Rattle.std.specs.declared.cmp.Ordering.TheVariants.{Less, Equal, Greater}
-use Rattle.std.specs.Ordering.{ordering_then, is_lt, is_eq, is_gt}
-
--- Of three orderings in sequence, it does not matter which two are combined first.
-pub then_assoc : (a b c : Ordering)
-    → ordering_then a (ordering_then b c) ≡ ordering_then (ordering_then a b) c
-then_assoc Less b c = refl
-then_assoc Equal b c = refl
-then_assoc Greater b c = refl
+use Rattle.std.specs.Ordering.{is_lt, is_eq, is_gt}
 
 -- Where `s && t` holds, the first holds.
 pub first_part : (s t : Bool) → T (s && t) → T s

@@ -1,5 +1,5 @@
 -- When stamps and labels are the same.
-use Rattle.std.proofs.Common.{◌≡◌, ℕ, Bool, ◌&&◌, List, Option, Some, None, ap, refl}
+use Rattle.std.proofs.Common.{◌≡◌, ℕ, ◌&&◌, List, Option, Some, None, ap, refl}
 use Rattle.std.proofs.Common.{nat_eq}
 use Rattle.std.specs.Bool.{Decides}
 use Rattle.std.specs.Option.{option_eq}
@@ -7,11 +7,8 @@ use Rattle.std.specs.Cmp.{unsigned_Decides}
 use Rattle.std.specs.Cmp.Lexicographic.{pointwise, bytes_decides}
 use Rattle.std.proofs.lemmas.Bool.Decides.{Decides-and, Decides-like}
 use Rattle.cell_core.specs.declared.stamp.Stamp.{Stamp}
+use Rattle.cell_core.specs.StampEq.{stamp_eq}
 use Rattle.cell_core.proofs.LabelLemmas.{texts_decides}
-
--- Whether two stamps have the same time, the same site and the same count.
-abbrev pub stamp_eq : Stamp → Stamp → Bool
-stamp_eq a b = nat_eq a.time b.time && (pointwise nat_eq a.site b.site && nat_eq a.count b.count)
 
 -- Two stamps are the same just where their times, sites and counts are.
 pub stamp_decides : (a b : Stamp) → Decides (stamp_eq a b) (a ≡ b)

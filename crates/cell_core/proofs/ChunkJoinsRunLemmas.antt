@@ -27,7 +27,7 @@ use Rattle.cell_core.proofs.JoinAbsentLemmas.{between_from}
 use Rattle.cell_core.proofs.JoinAbsentLemmas.{further_joined, further_between, further_agree}
 use Rattle.cell_core.proofs.Basics.{first_part, second_part, both_parts, less_than, some_not_none}
 use Rattle.cell_core.proofs.Basics.{tied_order}
-use Rattle.cell_core.proofs.KeyedPlacesLemmas.{find-below}
+use Rattle.cell_core.proofs.KeyedPlacesLemmas.{below_tied, find-below}
 use Rattle.cell_core.proofs.KeyedWalkLemmas.{above, below}
 use Rattle.cell_core.proofs.ChunkLemmas.{map_front, map_back, find-front, all_of-split, all_of-set}
 use Rattle.cell_core.proofs.ChunkLemmas.{filled-set, filled_at, find-chunk}
@@ -172,15 +172,6 @@ module _ {K J : Type 0} (cmp : K → K → Ordering) where
         (subst (λ r. T (is_lt r)) (sym (head_key (λ q. cmp k q ≡ Less) e es h)) tt)
         (below_of_keys k es (tail_keys (λ q. cmp k q ≡ Less) e es h))
 
-    below_tied : (x y : K) (es : List (K × J)) → cmp x y ≡ Equal → T (below_all cmp y es)
-        → T (below_all cmp x es)
-    below_tied x y [] p h = tt
-    below_tied x y (e ∷ es) p h =
-        both_parts (is_lt (cmp x e.0)) (below_all cmp x es)
-        (subst (λ r. T (is_lt r)) (sym (total.congr x y e.0 p))
-        (first_part (is_lt (cmp y e.0)) (below_all cmp y es) h))
-        (below_tied x y es p (second_part (is_lt (cmp y e.0)) (below_all cmp y es) h))
-
     -- each key of a list is above one that is below all
     pub key_above : (k : K) (es : List (K × J)) (q : K) (v : J) → T (below_all cmp k es)
         → find cmp q es ≡ Some v → cmp k q ≡ Less
@@ -237,7 +228,7 @@ module _ {K J : Type 0} (cmp : K → K → Ordering) where
         → T (below_all cmp q ys)) [
           | true ↦
               λ t _.
-              below_tied q x.0 ys (tied_order (cmp q x.0) t)
+              below_tied cmp total q x.0 ys (tied_order (cmp q x.0) t)
               (below_back x.0 xs ys
               (first_part (below_all cmp x.0 (xs ++ ys)) (is_sorted cmp (xs ++ ys)) map))
           | false ↦

@@ -127,6 +127,16 @@ module _ {K J : Type 0} (cmp : K → K → Ordering) where
         (less_than (cmp y e.0) (first_part (is_lt (cmp y e.0)) (below_all cmp y es) h)))) tt)
         (below-trans x y es p (second_part (is_lt (cmp y e.0)) (below_all cmp y es) h))
 
+    -- what ties with a key that is below all is below all
+    pub below_tied : (x y : K) (es : List (K × J)) → cmp x y ≡ Equal → T (below_all cmp y es)
+        → T (below_all cmp x es)
+    below_tied x y [] p h = tt
+    below_tied x y (e ∷ es) p h =
+        both_parts (is_lt (cmp x e.0)) (below_all cmp x es)
+        (subst (λ r. T (is_lt r)) (sym (total.congr x y e.0 p))
+        (first_part (is_lt (cmp y e.0)) (below_all cmp y es) h))
+        (below_tied x y es p (second_part (is_lt (cmp y e.0)) (below_all cmp y es) h))
+
     -- a key that is not at its place is not there
     pub find-gap : (key : K) (es : List (K × J)) → IsMap cmp es
         → ((d : K × J) → place_of cmp key es < length es

@@ -11,7 +11,7 @@ use Rattle.std.proofs.lemmas.Bool.Decides.{nat_tests}
 use Rattle.std.proofs.lemmas.Fmt.{decimal_by_steps}
 use Rattle.std.proofs.lemmas.Cmp.{ranked, by_ranked}
 use Rattle.lang_core.proofs.LowerTextLemmas.{then_equal}
-use Rattle.cell_core.proofs.Basics.{then_assoc}
+use Rattle.lang_core.proofs.Basics.{then_assoc}
 use Rattle.std.specs.Fmt.{decimal}
 use Rattle.std.specs.Cmp.{nat_cmp_is}
 use Rattle.std.specs.Cmp.Lexicographic.{slice_cmp}

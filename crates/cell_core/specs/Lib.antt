@@ -17,6 +17,7 @@ pub mod Label
 pub mod MessageId
 pub mod SiteName
 pub mod Stamp
+pub mod StampEq
 pub mod StampLater
 pub mod StampLaterLaws
 pub mod ZeroPadded

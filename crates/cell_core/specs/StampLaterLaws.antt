@@ -6,6 +6,7 @@ use Rattle.std.specs.declared.cmp.Ordering.{Ordering}
 use Rattle.std.specs.declared.cmp.Ordering.TheVariants.{Less, Equal, Greater}
 use Rattle.std.specs.Ordering.{is_lt, is_gt, ordering_reverse}
 use Rattle.std.specs.Cmp.{IsTotalOrder, upto}
+use Rattle.lang_core.proofs.Basics.{less_of, level_of}
 use Rattle.cell_core.specs.Join.{JoinLaws, IsBelow}
 use Rattle.cell_core.specs.JoinBasis.{join_laws}
 use Rattle.cell_core.specs.StampLater.{later_by, IsEitherOf}
@@ -19,16 +20,6 @@ turned_gt : (r : Ordering) → is_gt r ≡ is_lt (ordering_reverse r)
 turned_gt Less = refl
 turned_gt Equal = refl
 turned_gt Greater = refl
-
-less_of : (r : Ordering) → is_lt r ≡ true → r ≡ Less
-less_of Less e = refl
-less_of Equal e = absurd (true≢false (sym e))
-less_of Greater e = absurd (true≢false (sym e))
-
-level_of : (r : Ordering) → is_lt r ≡ false → is_lt (ordering_reverse r) ≡ false → r ≡ Equal
-level_of Less e f = absurd (true≢false e)
-level_of Equal e f = refl
-level_of Greater e f = absurd (true≢false f)
 
 module _ {X S : Type 0} (mark : X → S) (cmp : S → S → Ordering) (total : IsTotalOrder cmp)
     (exact : (s t : S) → cmp s t ≡ Equal → s ≡ t)

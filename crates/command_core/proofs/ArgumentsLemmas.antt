@@ -8,7 +8,7 @@ use Rattle.clap.specs.declared.builder.command.Command.{Command}
 use Rattle.clap.proofs.OnLiterals.{clap_on_literals}
 use Rattle.command_core.specs.ArgumentsWords.{IsArgument, IsCommand, Joins, Numerals, Schemes}
 use Rattle.command_core.specs.ArgumentsWords.{lexicat_app}
-use Rattle.command_core.specs.ArgumentsWords.{preferences_app}
+use Rattle.command_core.specs.ArgumentsWords.{preferences_app, under as sub}
 
 -- The program's command line is one of which clap states the matches.
 pub lexicat_simple : (schemes : Schemes) (numbers : Numerals)
@@ -38,9 +38,6 @@ pub preferred : (app : App) (schemes : Schemes) (name : Text) (old new : Command
     → IsCommand (preferences_app app schemes name) new
 preferred app schemes name old new is has =
     subst (λ (a : App). IsCommand (preferences_app a schemes name) new) is.0 has
-
-abbrev sub : App → App → App
-sub app command = with_subcommand app command.top
 
 -- one more subcommand
 joined : {E : Type 0} (app under : App) (program command : Result Command E) (new : Command)

@@ -237,7 +237,7 @@ bare_app =
     }
 
 -- the program with one subcommand more
-abbrev under : App → App → App
+abbrev pub under : App → App → App
 under app command = with_subcommand app command.top
 
 -- with `pick`, and with what is done at a site

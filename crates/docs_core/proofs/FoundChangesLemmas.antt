@@ -20,7 +20,7 @@ use Rattle.docs_core.specs.Updating.{AreChanges, Texts}
 use Rattle.docs_core.specs.declared.call.revised.Revised.{Revised}
 use Rattle.catalogue.proofs.CatalogueBestLemmas.{own_key as itself, same_key as one_key}
 use Rattle.docs_core.proofs.JoinedRowsLemmas.{after_greater, find_above, find_part, find_seam}
-use Rattle.docs_core.proofs.JoinedRowsLemmas.{part_after}
+use Rattle.cell_core.proofs.ChunkLemmas.{map_back}
 use Rattle.docs_core.proofs.UpdatingLemmas.{Some≢None, above_found, changed_differ, changed_first}
 use Rattle.docs_core.proofs.UpdatingLemmas.{skipped}
 
@@ -168,7 +168,7 @@ lesser_absent seen e key cells (more, is, map) above less =
     let greater : key_cmp e.0 key ≡ Greater =
     key_cmp_total.antisymm e.0 key ∙ ap ordering_reverse less in
     let after = after_greater key (e ∷ more)
-    (part_after seen (e ∷ more) (subst (IsMap key_cmp) is map)) greater in
+    (map_back key_cmp seen (e ∷ more) (subst (IsMap key_cmp) is map)) greater in
     ap (option_and_then (λ (c : Cell). c.label))
     (sym (ap (find key_cmp key) is ∙ find_part seen (e ∷ more) key after
     ∙ find_above seen key above))

@@ -30,7 +30,8 @@ use Rattle.site_docs.specs.RowsDraft.{HoldsRows}
 use Rattle.site_docs.specs.declared.rows_draft.RowsDraft.{RowsDraft}
 use Rattle.catalogue.proofs.CatalogueApplyLemmas.{with_none as agree_none}
 use Rattle.cata_core.proofs.RunsSpreadingLemmas.{get_next as last_there}
-use Rattle.cell_core.proofs.Basics.{both_parts, first_part, less_than, second_part}
+use Rattle.cell_core.proofs.Basics.{first_part, less_than, second_part}
+use Rattle.cell_core.proofs.ChunkLemmas.{map_back, map_front}
 use Rattle.cell_core.proofs.Basics.{tied_order as tied}
 
 -- ---- of an entry behind all others
@@ -245,36 +246,12 @@ joins_both own other rows k c d so_far above_own above agree = record {
 
 -- ---- keys after those of a part
 
--- what comes after a part of a map is a map
-pub part_after : (xs ys : Entries) → IsMap key_cmp (xs ++ ys) → IsMap key_cmp ys
-part_after [] ys map = map
-part_after (x ∷ xs) ys map =
-    part_after xs ys
-    (second_part (below_all key_cmp x.0 (xs ++ ys)) (is_sorted key_cmp (xs ++ ys)) map)
-
--- so is what comes before a part
-pub below_part : (k : EntryKey) (xs ys : Entries) → T (below_all key_cmp k (xs ++ ys))
-    → T (below_all key_cmp k xs)
-below_part k [] ys h = tt
-below_part k (x ∷ xs) ys h =
-    both_parts (is_lt (key_cmp k x.0)) (below_all key_cmp k xs)
-    (first_part (is_lt (key_cmp k x.0)) (below_all key_cmp k (xs ++ ys)) h)
-    (below_part k xs ys (second_part (is_lt (key_cmp k x.0)) (below_all key_cmp k (xs ++ ys)) h))
-
-part_before : (xs ys : Entries) → IsMap key_cmp (xs ++ ys) → IsMap key_cmp xs
-part_before [] ys map = tt
-part_before (x ∷ xs) ys map =
-    both_parts (below_all key_cmp x.0 xs) (is_sorted key_cmp xs)
-    (below_part x.0 xs ys
-    (first_part (below_all key_cmp x.0 (xs ++ ys)) (is_sorted key_cmp (xs ++ ys)) map))
-    (part_before xs ys
-    (second_part (below_all key_cmp x.0 (xs ++ ys)) (is_sorted key_cmp (xs ++ ys)) map))
-
 -- a key below all others
 abbrev pub AreAfter : EntryKey → Entries → Type 0
 AreAfter k = All (λ (d : Entry). key_cmp k d.0 ≡ Less)
 
-all_after : (k : EntryKey) (es : Entries) → T (below_all key_cmp k es) → AreAfter k es
+-- A key below all keys of a list is below each.
+pub all_after : (k : EntryKey) (es : Entries) → T (below_all key_cmp k es) → AreAfter k es
 all_after k [] h = All-nil (λ (d : Entry). key_cmp k d.0 ≡ Less)
 all_after k (e ∷ es) h =
     All-cons (λ (d : Entry). key_cmp k d.0 ≡ Less) e es
@@ -349,7 +326,8 @@ joining_before key left others seen rows less more so_far cut are_less above =
       map = so_far.map;
       joined =
           joins_others seen so_far.taken rows less so_far.joined
-          (part_before (so_far.taken ++ less) more (subst (IsMap key_cmp) all so_far.map)) parts.0;
+          (map_front key_cmp (so_far.taken ++ less) more (subst (IsMap key_cmp) all so_far.map))
+          parts.0;
       below =
           All-append (λ (e : Entry). key_cmp e.0 key ≡ Less) so_far.taken less
           (so_far.below key above) are_less;
@@ -362,7 +340,7 @@ pub joining_own : (k : EntryKey) (c : Cell) (left others seen rows : Entries)
     → IsJoining left others (seen ++ (k, c) ∷ []) (rows ++ (k, c) ∷ [])
 joining_own k c left others seen rows so_far greater above =
     let whole = subst (IsMap key_cmp) so_far.all so_far.map in
-    let after = after_greater k left (part_after so_far.taken left whole) greater in record {
+    let after = after_greater k left (map_back key_cmp so_far.taken left whole) greater in record {
       taken = so_far.taken;
       all = so_far.all;
       map = so_far.map;
@@ -380,7 +358,7 @@ joining_both k c d left more others seen rows so_far first above agree =
     let all = so_far.all ∙ ap (λ l. so_far.taken ++ l) first
     ∙ sym (append_assoc so_far.taken ((k, d) ∷ []) more) in
     let whole = subst (IsMap key_cmp) (so_far.all ∙ ap (λ l. so_far.taken ++ l) first) so_far.map in
-    let after = after_first (k, d) more (part_after so_far.taken ((k, d) ∷ more) whole) in
+    let after = after_first (k, d) more (map_back key_cmp so_far.taken ((k, d) ∷ more) whole) in
     let P : Entry → Type 0 = λ (e : Entry). IsAboveAll e.0 seen in
     let rest = all_rest P (k, d) more (subst (All P) first so_far.above) in record {
       taken = so_far.taken ++ (k, d) ∷ [];
@@ -412,7 +390,7 @@ above_next seen (x ∷ xs) d above after =
 read_after : (d : Entry) (taken others next : Entries) → others ≡ taken ++ d ∷ []
     → IsMap key_cmp (others ++ next) → AreAfter d.0 next
 read_after d taken others next all map =
-    after_first d next (part_after taken (d ∷ next)
+    after_first d next (map_back key_cmp taken (d ∷ next)
     (subst (IsMap key_cmp)
     (ap (λ o. o ++ next) all ∙ append_assoc taken (d ∷ []) next) map))
 

@@ -20,7 +20,7 @@ use Rattle.catalogue.specs.Entries.{Agree, Entries, Entry, IsAboveAll, joined}
 use Rattle.cell_core.specs.Entry.{key_cmp_exact, key_cmp_total}
 use Rattle.catalogue.specs.CatalogueLatest.{latest_of}
 use Rattle.catalogue.proofs.CatalogueAboveLemmas.{front_below}
-use Rattle.catalogue.proofs.EntriesFilteredLemmas.{find-below}
+use Rattle.cell_core.proofs.KeyedPlacesLemmas.{find-below}
 use Rattle.cata_core.proofs.SyncingTurnsLemmas.{agrees_back, joined_back}
 use Rattle.catalogue.proofs.CatalogueLatestLemmas.{held_less, latest_put}
 use Rattle.map_docs.specs.Maps.{Labelled}

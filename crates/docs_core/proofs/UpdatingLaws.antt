@@ -10,7 +10,7 @@ use Rattle.cell_core.specs.declared.cell.Cell.{Cell}
 use Rattle.cell_core.specs.Entry.{EntryKey, key_cmp, key_cmp_exact, key_cmp_total}
 use Rattle.catalogue.specs.Entries.{Entries}
 use Rattle.cata_core.specs.Site.{SiteState}
-use Rattle.catalogue.proofs.EntriesFilteredLemmas.{find-below}
+use Rattle.cell_core.proofs.KeyedPlacesLemmas.{find-below}
 use Rattle.site_docs.specs.Documents.{site_text}
 use Rattle.site_docs.specs.Reading.{ReadsAsSite}
 use Rattle.map_docs.specs.MapsLabels.{AreLangMaps}

@@ -20,8 +20,7 @@ use Rattle.cell_core.proofs.CellLemmas.{label_decides}
 use Rattle.cell_core.specs.Entry.{EntryKey, key_cmp, key_cmp_exact, key_cmp_total}
 use Rattle.catalogue.specs.Entries.{Entries}
 use Rattle.catalogue.specs.CatalogueLatest.{latest_of}
-use Rattle.catalogue.proofs.EntriesFilteredLemmas.{find-below}
-use Rattle.catalogue.proofs.PlacesKeyLemmas.{below_lesser}
+use Rattle.cell_core.proofs.KeyedPlacesLemmas.{find-below, below-trans}
 use Rattle.map_docs.specs.Maps.{Labelled}
 use Rattle.query_docs.specs.Exporting.{label_at}
 use Rattle.query_docs.proofs.ExportingLemmas.{label_in}
@@ -81,7 +80,7 @@ module _ (r : Revised) (was is : EntryKey) (olds news : List Labelled) where
       let above =
       both_parts (is_lt (key_cmp was is)) (below_all key_cmp was news)
       (subst (λ o. T (is_lt o)) (sym less) tt)
-      (below_lesser key_cmp key_cmp_total was is news less
+      (below-trans key_cmp key_cmp_total was is news less
       (first_part (below_all key_cmp is news) (is_sorted key_cmp news) n)) in record {
         old_head = rw (key, old) (head_there was texts olds m);
         new_head = rw (key, new) (head_absent was ((is, more) ∷ news) n above);
@@ -98,7 +97,7 @@ module _ (r : Revised) (was is : EntryKey) (olds news : List Labelled) where
       let above =
       both_parts (is_lt (key_cmp is was)) (below_all key_cmp is olds)
       (subst (λ o. T (is_lt o)) (sym less) tt)
-      (below_lesser key_cmp key_cmp_total is was olds less
+      (below-trans key_cmp key_cmp_total is was olds less
       (first_part (below_all key_cmp was olds) (is_sorted key_cmp olds) m)) in record {
         old_head = rw (key, old) (head_absent is ((was, texts) ∷ olds) m above);
         new_head = rw (key, new) (head_there is more news n);

@@ -1,15 +1,11 @@
 -- What an edit brought, gathered by its keys.
 use Rattle.std.proofs.Common.{◌≡◌, ◌≢◌, ◌∙◌, ◌+◌, ◌<◌, ℕ, true, false, cond, List, [], ◌∷◌, Option}
 use Rattle.std.proofs.Common.{Some, None, inl, inr, refl, sym, ap, subst, drop, get_or, length}
-use Rattle.std.proofs.Common.{nat_eq}
 use Rattle.std.specs.Prelude.{◌⊎◌}
-use Rattle.std.specs.Bool.{Decides}
 use Rattle.std.specs.Borrow.{Bor}
 use Rattle.std.specs.Option.{option_copied, option_eq}
-use Rattle.std.specs.Cmp.Lexicographic.{pointwise}
-use Rattle.std.proofs.lemmas.Bool.Decides.{Decides-and, Decides-like}
-use Rattle.cell_core.proofs.CellLemmas.{label_decides, stamp_decides, stamp_eq}
 use Rattle.catalogue.specs.Equality.{cell_eq}
+use Rattle.catalogue.proofs.ChangesLemmas.{cell_decides}
 use Rattle.std.specs.Ordering.{eq_by_cmp, is_eq}
 use Rattle.std.specs.Cmp.{tied_itself}
 use Rattle.std.specs.FinMap.Entries.{find, find-put, is_sorted-put}
@@ -133,23 +129,13 @@ edit_added cells came more key cell edit part held same is =
 
 -- ---- the cells of labels
 
-same_cell : (c d : Cell) → cell_eq c d ≡ true → c ≡ d
-same_cell c d =
-    let decides : Decides (cell_eq c d) (c ≡ d) =
-    Decides-like (cell_eq c d) (λ parts i. record { stamp = parts.0 i; label = parts.1 i })
-    (λ same. (ap (λ x. x.stamp) same, ap (λ x. x.label) same))
-    (Decides-and (stamp_eq c.stamp d.stamp)
-    (option_eq (pointwise (pointwise nat_eq)) c.label d.label) (stamp_decides c.stamp d.stamp)
-    (label_decides c.label d.label)) in
-    decides.0
-
 -- Cells that are borrowed are the same where the comparison says so.
 pub same_cells : (x y : Option (Bor Cell))
     → option_eq (λ a b. cell_eq a.now b.now) x y ≡ true → option_copied x ≡ option_copied y
 same_cells None None t = refl
 same_cells None (Some y) t = cc
 same_cells (Some x) None t = cc
-same_cells (Some x) (Some y) t = ap Some (same_cell x.now y.now t)
+same_cells (Some x) (Some y) t = ap Some ((cell_decides x.now y.now).0 t)
 
 -- the key is known, or one of the labels from a place on has it
 abbrev pub IsToKnow : Entries → Entries → List Labelled → ℕ → Entries → EntryKey → Type 0

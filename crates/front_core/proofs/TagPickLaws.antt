@@ -25,10 +25,11 @@ use Rattle.list_core.specs.declared.field.Malformed.TheVariants.{Refused, Passed
 use Rattle.list_core.specs.declared.scheme.Scheme.{Scheme}
 use Rattle.list_core.specs.declared.fault.NegoFault.TheVariants as nego
 use Rattle.list_core.specs.Field.{IsField, RefusesField}
+use Rattle.nego_core.specs.Shortlist.{IsLookedUpBy}
 use Rattle.front_core.specs.Fault.{field_fault, language_fault}
 use Rattle.front_core.specs.Preferences.{FieldText, ReadsAs, RefusesRanges, Text, IsDefault}
 use Rattle.front_core.specs.Preferences.{RefusesDefault}
-use Rattle.front_core.specs.TagPick.{Finds, IsPicked, IsPickLine, LooksUp, RefusesPick, pick_line}
+use Rattle.front_core.specs.TagPick.{Finds, IsPicked, IsPickLine, RefusesPick, pick_line}
 use Rattle.front_core.specs.Tags.{HasNoLang, RefusesTags, SpellLangs}
 use Rattle.front_core.proofs.TagPickLemmas.{one_lang}
 use Rattle.front_core.specs.declared.words.Finding.{Finding}
@@ -59,7 +60,7 @@ one_text a b some =
 
 one_looked : (by : Widening) (list : List Item) (langs : List (List ℕ))
     (a b : Option (List (List ℕ)))
-    → LooksUp by list langs a → LooksUp by list langs b → a ≡ b
+    → IsLookedUpBy by list langs a → IsLookedUpBy by list langs b → a ≡ b
 one_looked Off list langs a b f g = one_lookup list (is_among langs) a b f g
 one_looked (By scheme) list langs a b f g = one_widened scheme list langs a b f g
 

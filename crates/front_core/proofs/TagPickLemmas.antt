@@ -16,8 +16,9 @@ use Rattle.nego_core.specs.Widening.{IsFoundBy}
 use Rattle.nego_core.specs.declared.widening.Widening.{Widening}
 use Rattle.nego_core.specs.declared.widening.Widening.TheVariants.{Off, By}
 use Rattle.nego_core.specs.declared.lookup_places.Found.{Found}
+use Rattle.nego_core.specs.Shortlist.{IsLookedUpBy}
 use Rattle.front_core.specs.Preferences.{FieldText, ReadsAs, Text, IsDefault}
-use Rattle.front_core.specs.TagPick.{Finds, HasPlace, IsPicked, IsPickedTag, IsTagAt, LooksUp}
+use Rattle.front_core.specs.TagPick.{Finds, HasPlace, IsPicked, IsPickedTag, IsTagAt}
 use Rattle.front_core.specs.declared.words.Finding.{Finding}
 use Rattle.front_core.specs.Tags.{SpellLangs}
 use Rattle.front_core.specs.declared.tag_pick.Picked.{Picked}
@@ -27,13 +28,13 @@ use Rattle.front_core.specs.declared.tag_pick.Picked.TheVariants as picked
 -- what is found at a place, by what is looked up
 abbrev pub FoundBy : Widening → List Item → List (List ℕ) → Option (List ℕ) → Found → Type 0
 FoundBy by list langs default (found.Matched place) =
-    (text : List ℕ) × LooksUp by list langs (Some (pieces text))
+    (text : List ℕ) × IsLookedUpBy by list langs (Some (pieces text))
     × (least_place langs text ≡ Some place)
 FoundBy by list langs default (found.Default place) =
-    LooksUp by list langs None × ((text : List ℕ) × (default ≡ Some text)
+    IsLookedUpBy by list langs None × ((text : List ℕ) × (default ≡ Some text)
     × IsOpenDefault list (is_among langs) text × (least_place langs text ≡ Some place))
 FoundBy by list langs default found.Nothing =
-    LooksUp by list langs None × ¬ HasOpenDefault list (is_among langs) default
+    IsLookedUpBy by list langs None × ¬ HasOpenDefault list (is_among langs) default
 
 -- lookup and widened lookup find so
 pub found_by : (by : Widening) (list : List Item) (langs : List (List ℕ))
@@ -60,26 +61,27 @@ lang_at langs given text place lang same there at =
 -- lookup found it
 pub found_lang : (by : Widening) (list : List Item) (langs given : List (List ℕ)) (place : ℕ)
     (lang : List ℕ) → given ≡ langs
-    → (text : List ℕ) × LooksUp by list given (Some (pieces text))
+    → (text : List ℕ) × IsLookedUpBy by list given (Some (pieces text))
     × (least_place given text ≡ Some place)
-    → lang ≡ get_or langs place lang → LooksUp by list langs (Some (pieces lang))
+    → lang ≡ get_or langs place lang → IsLookedUpBy by list langs (Some (pieces lang))
 found_lang by list langs given place lang same found at =
     let is = lang_at langs given found.0 place lang same found.2 at in
-    subst (λ t. LooksUp by list langs (Some (pieces t))) (sym is)
-    (subst (λ ls. LooksUp by list ls (Some (pieces found.0))) same found.1)
+    subst (λ t. IsLookedUpBy by list langs (Some (pieces t))) (sym is)
+    (subst (λ ls. IsLookedUpBy by list ls (Some (pieces found.0))) same found.1)
 
 -- or it is the default
 pub found_default : (by : Widening) (list : List Item) (langs given : List (List ℕ))
     (handed default : Option (List ℕ)) (place : ℕ) (lang : List ℕ) → given ≡ langs
     → handed ≡ default
-    → LooksUp by list given None × ((text : List ℕ) × (handed ≡ Some text)
+    → IsLookedUpBy by list given None × ((text : List ℕ) × (handed ≡ Some text)
     × IsOpenDefault list (is_among given) text × (least_place given text ≡ Some place))
     → lang ≡ get_or langs place lang
-    → LooksUp by list langs None × (default ≡ Some lang) × IsOpenDefault list (is_among langs) lang
+    → IsLookedUpBy by list langs None × (default ≡ Some lang)
+    × IsOpenDefault list (is_among langs) lang
 found_default by list langs given handed default place lang same is found at =
     let text = found.1.0 in
     let lang_is = lang_at langs given text place lang same found.1.3 at in (
-      subst (λ ls. LooksUp by list ls None) same found.0,
+      subst (λ ls. IsLookedUpBy by list ls None) same found.0,
       sym is ∙ found.1.1 ∙ ap Some (sym lang_is),
       subst (λ t. IsOpenDefault list (is_among langs) t) (sym lang_is)
           (subst (λ ls. IsOpenDefault list (is_among ls) text) same found.1.2),
@@ -88,11 +90,12 @@ found_default by list langs given handed default place lang same is found at =
 -- or nothing was found
 pub found_nothing : (by : Widening) (list : List Item) (langs given : List (List ℕ))
     (handed default : Option (List ℕ)) → given ≡ langs → handed ≡ default
-    → LooksUp by list given None × ¬ HasOpenDefault list (is_among given) handed
-    → LooksUp by list langs None × ¬ HasOpenDefault list (is_among langs) default
+    → IsLookedUpBy by list given None × ¬ HasOpenDefault list (is_among given) handed
+    → IsLookedUpBy by list langs None × ¬ HasOpenDefault list (is_among langs) default
 found_nothing by list langs given handed default same is found =
-    subst (λ d. LooksUp by list langs None × ¬ HasOpenDefault list (is_among langs) d) is
-    (subst (λ ls. LooksUp by list ls None × ¬ HasOpenDefault list (is_among ls) handed) same found)
+    subst (λ d. IsLookedUpBy by list langs None × ¬ HasOpenDefault list (is_among langs) d) is
+    (subst (λ ls. IsLookedUpBy by list ls None × ¬ HasOpenDefault list (is_among ls) handed) same
+    found)
 
 -- ---- which tag it was
 

@@ -4,12 +4,11 @@ use Rattle.std.specs.Prelude.{◌≡◌, ◌<◌, ◌⊎◌, ℕ, List, ◌++◌
 use Rattle.std.specs.Prelude.{slice_get}
 use Rattle.lang_core.specs.Lang.{SpellsLang}
 use Rattle.lang_core.specs.Text.{pieces}
-use Rattle.nego_core.specs.Choosing.{HasOpenDefault, IsOpenDefault, IsFirst, IsLookedUp}
+use Rattle.nego_core.specs.Choosing.{HasOpenDefault, IsOpenDefault, IsFirst}
 use Rattle.nego_core.specs.LangSet.{is_among}
 use Rattle.list_core.specs.Item.{Item}
-use Rattle.nego_core.specs.Widening.{IsLookedUpWidened}
+use Rattle.nego_core.specs.Shortlist.{IsLookedUpBy}
 use Rattle.nego_core.specs.declared.widening.Widening.{Widening}
-use Rattle.nego_core.specs.declared.widening.Widening.TheVariants.{Off, By}
 use Rattle.nego_core.specs.declared.lookup_places.Found.{Found}
 use Rattle.front_core.specs.Fault.{IsOf, language_fault}
 use Rattle.front_core.specs.Preferences.{FieldText, ReadsAs, Text, HasPreferences, IsDefault}
@@ -25,20 +24,15 @@ use Rattle.nego_core.specs.declared.lookup_places.Found.TheVariants as found
 use Rattle.front_core.specs.declared.answer.Outcome.TheVariants as outcome
 use Rattle.front_core.specs.declared.tag_pick.Picked.TheVariants as picked
 
--- what lookup (RFC 4647 section 3.4), or widened lookup (project rule), finds over languages
-abbrev pub LooksUp : Widening → List Item → List (List ℕ) → Option (List (List ℕ)) → Type 0
-LooksUp Off list langs = IsLookedUp list (is_among langs)
-LooksUp (By scheme) list langs = IsLookedUpWidened scheme list langs
-
 -- the same by its text, or the default where it finds none
 abbrev pub Finds : Widening → List Item → List (List ℕ) → Option (List ℕ) → Finding → Type 0
 Finds widening list langs default (Matched lang) =
-    LooksUp widening list langs (Some (pieces lang))
+    IsLookedUpBy widening list langs (Some (pieces lang))
 Finds widening list langs default (Default lang) =
-    LooksUp widening list langs None × (default ≡ Some lang)
+    IsLookedUpBy widening list langs None × (default ≡ Some lang)
     × IsOpenDefault list (is_among langs) lang
 Finds widening list langs default Nothing =
-    LooksUp widening list langs None × ¬ HasOpenDefault list (is_among langs) default
+    IsLookedUpBy widening list langs None × ¬ HasOpenDefault list (is_among langs) default
 
 -- what a field finds among the tags
 pub record IsPicked (field : FieldText) (word : Option Text) (tags : List Text) (found : Finding) :

@@ -14,20 +14,17 @@ use Rattle.serde_json.specs.Read.{of_json, of_members}
 use Rattle.json_docs.specs.ObjectLastMember.{HasNo, and_then}
 use Rattle.catalogue.proofs.Basics.{some_same as same_some}
 
-same_name : (k : List ℕ) → slice_cmp nat_cmp k k ≡ Equal
-same_name k = tied_itself nat_list_cmp_total k
-
 -- What is put at a name is found by it.
 put_found_at : (o : Ordering) (k l : List ℕ) (d e : Data) (ms : Members)
     → slice_cmp nat_cmp k l ≡ o → get_member k (put k d ms) ≡ Some d
     → get_member k (match_ordering o (member k d (member l e ms)) (member l d ms)
     (member l e (put k d ms))) ≡ Some d
-put_found_at Less k l d e ms is later = rw (same_name k) refl
+put_found_at Less k l d e ms is later = rw (tied_itself nat_list_cmp_total k) refl
 put_found_at Equal k l d e ms is later = rw is refl
 put_found_at Greater k l d e ms is later = rw is later
 
 put_found : (k : List ℕ) (d : Data) (ms : Members) → get_member k (put k d ms) ≡ Some d
-put_found k d no_members = rw (same_name k) refl
+put_found k d no_members = rw (tied_itself nat_list_cmp_total k) refl
 put_found k d (member l e ms) =
     put_found_at (slice_cmp nat_cmp k l) k l d e ms refl (put_found k d ms)
 

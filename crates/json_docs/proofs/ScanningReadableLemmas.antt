@@ -1,7 +1,8 @@
 -- A value is read where its numbers are in range.
-use Rattle.std.proofs.Common.{◌≡◌, ◌∙◌, ℕ, List, Bool, true, false, ◌&&◌, refl, ap, ap₂, sym}
+use Rattle.std.proofs.Common.{◌≡◌, ◌∙◌, ℕ, List, Bool, true, ◌&&◌, refl, ap, ap₂, sym}
 use Rattle.std.specs.Prelude.{Option, None, Some, is_some, option_map, option_and_then, unwrap_or}
 use Rattle.std.proofs.lemmas.List.Folds.{list_all-append}
+use Rattle.lang_core.proofs.Basics.{and_true, each_true}
 use Rattle.json.specs.Json as json
 use Rattle.json.specs.Json.{value}
 use Rattle.json.specs.Token.{Token}
@@ -15,10 +16,6 @@ use Rattle.json_docs.specs.ScanningReads.{IsRead, Reads, data_of}
 some_map : {A B : Type 0} → (f : A → B) (o : Option A) → is_some (option_map f o) ≡ is_some o
 some_map f None = refl
 some_map f (Some x) = refl
-
-and_true : (b : Bool) → b ≡ (b && true)
-and_true true = refl
-and_true false = refl
 
 some_both : {A B C : Type 0} → (f : A → B → C) (o : Option A) (r : Option B)
     → is_some (option_and_then (λ a. option_map (f a) r) o) ≡ (is_some o && is_some r)
@@ -35,7 +32,8 @@ mutual
   pub is_some-of_json : (j : json.Json) → is_some (of_json j) ≡ are_in_range (json_tokens j)
   is_some-of_json json.null = refl
   is_some-of_json (json.boolean b) = refl
-  is_some-of_json (json.number s) = some_map number (number_of s) ∙ and_true (is_some (number_of s))
+  is_some-of_json (json.number s) =
+      some_map number (number_of s) ∙ sym (and_true (is_some (number_of s)))
   is_some-of_json (json.string s) = refl
   is_some-of_json (json.array js) = some_map array (of_items js) ∙ is_some-of_items js
   is_some-of_json (json.object ms) = some_map object _ ∙ is_some-of_members ms _
@@ -56,11 +54,6 @@ mutual
       ∙ ap (λ a. a && are_in_range (members_tokens ms)) (is_some-of_json j)
       ∙ sym (list_all-append is_token_in_range (json_tokens j) (members_tokens ms))
 
--- Where a conjunction is true, both its tests are.
-pub both_true : (a b : Bool) → (a && b) ≡ true → (a ≡ true) × (b ≡ true)
-both_true true b h = (refl, h)
-both_true false b h = cc
-
 -- what is there is its data
 pub there : {A : Type 0} → (o : Option A) (d : A) → is_some o ≡ true → o ≡ Some (unwrap_or o d)
 there None d h = cc
@@ -71,7 +64,7 @@ pub parts_in_range : (depth : ℕ) (old new : List Token) (j : json.Json) → ar
     → value depth old ≡ Some (j, new)
     → (are_in_range (json_tokens j) ≡ true) × (are_in_range new ≡ true)
 parts_in_range depth old new j all is =
-    both_true _ _ (sym (list_all-append is_token_in_range (json_tokens j) new)
+    each_true _ _ (sym (list_all-append is_token_in_range (json_tokens j) new)
     ∙ (ap are_in_range (sym (value-json_tokens_back depth old new j is)) ∙ all))
 
 -- a value whose numbers are in range is read
@@ -90,4 +83,4 @@ Reads-in_range depth old new j all is =
 -- the items of an array that is read are read, and are its items
 pub IsRead-item : (j : json.Json) (js : json.Items) → is_some (of_items (json.item j js)) ≡ true
     → IsRead j × (is_some (of_items js) ≡ true)
-IsRead-item j js h = both_true _ _ (sym (some_both item (of_json j) (of_items js)) ∙ h)
+IsRead-item j js h = each_true _ _ (sym (some_both item (of_json j) (of_items js)) ∙ h)

@@ -1,8 +1,9 @@
 -- The whole text of a document.
-use Rattle.std.proofs.Common.{◌≡◌, ◌∙◌, ◌+◌, ◌≤◌, ◌&&◌, ℕ, List, [], ◌∷◌, Bool, true, false, length}
+use Rattle.std.proofs.Common.{◌≡◌, ◌∙◌, ◌+◌, ◌≤◌, ℕ, List, [], ◌∷◌, Bool, true, false, length}
 use Rattle.std.proofs.Common.{ap, sym, refl, inl, inr, arith}
 use Rattle.std.specs.Prelude.{Option, None, Some, is_some, option_map}
 use Rattle.std.proofs.lemmas.List.Folds.{list_all-append}
+use Rattle.lang_core.proofs.Basics.{and_true}
 use Rattle.json.specs.Json as json
 use Rattle.json.specs.Json.{Json, parse_map, skip_value, value}
 use Rattle.json.specs.Lex.{Class, Lexeme, Mode, Place, lex, lex_byte, class, place_token, punctuate}
@@ -151,10 +152,6 @@ none_of : (o : Option Data) → is_some o ≡ false → o ≡ None
 none_of None h = refl
 none_of (Some d) h = cc
 
-only_first : (a : Bool) → (a && true) ≡ false → a ≡ false
-only_first true h = h
-only_first false h = refl
-
 out_of_range : (ts : List Token) (o : Option (Json × List Token)) → value 127 ts ≡ o
     → are_in_range ts ≡ false → whole o ≡ None
 out_of_range ts None is h = refl
@@ -163,7 +160,7 @@ out_of_range ts (Some (j, [])) is h =
     ap are_in_range (value-json_tokens_back 127 ts [] j is)
     ∙ list_all-append is_token_in_range (json_tokens j) [] in
     none_of (of_json j)
-    (is_some-of_json j ∙ only_first (are_in_range (json_tokens j)) (sym back ∙ h))
+    (is_some-of_json j ∙ (sym (and_true (are_in_range (json_tokens j))) ∙ (sym back ∙ h)))
 out_of_range ts (Some (j, t ∷ r)) is h = refl
 
 -- a text with a number out of range is not read

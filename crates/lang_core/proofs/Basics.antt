@@ -2,7 +2,7 @@
 use Rattle.std.proofs.Common.{ℕ, ◌≡◌, ◌≤◌, ◌<◌, ◌⊎◌, inl, inr, Bool, true, false, refl, arith}
 use Rattle.std.proofs.Common.{sym, true≢false}
 use Rattle.std.specs.Prelude.{nat_le, nat_lt, ◌&&◌, ◌||◌, not}
-use Rattle.std.specs.Ordering.{is_lt as is_less}
+use Rattle.std.specs.Ordering.{is_lt as is_less, ordering_reverse, ordering_then}
 use Rattle.std.specs.declared.cmp.Ordering.{Ordering}
 use Rattle.std.specs.declared.cmp.Ordering.TheVariants.{Less, Equal, Greater}
 use Rattle.std.proofs.lemmas.Bool.Decides.{nat_tests}
@@ -47,6 +47,16 @@ pub and_false : (b : Bool) → b && false ≡ false
 and_false true = refl
 and_false false = refl
 
+-- Any value `&&` true is the value.
+pub and_true : (b : Bool) → b && true ≡ b
+and_true true = refl
+and_true false = refl
+
+-- Any value `||` false is the value.
+pub or_false : (b : Bool) → b || false ≡ b
+or_false true = refl
+or_false false = refl
+
 -- A truth value that cannot be true is false.
 pub is_false : (b : Bool) → (b ≡ true → ⊥) → b ≡ false
 is_false true h = absurd (h refl)
@@ -83,6 +93,19 @@ pub less_of : (r : Ordering) → is_less r ≡ true → r ≡ Less
 less_of Less e = refl
 less_of Equal e = absurd (true≢false (sym e))
 less_of Greater e = absurd (true≢false (sym e))
+
+-- A comparison that is less neither as it is nor reversed is `Equal`.
+pub level_of : (r : Ordering) → is_less r ≡ false → is_less (ordering_reverse r) ≡ false → r ≡ Equal
+level_of Less e f = absurd (true≢false e)
+level_of Equal e f = refl
+level_of Greater e f = absurd (true≢false f)
+
+-- Of three orderings in sequence, it does not matter which two are combined first.
+pub then_assoc : (a b c : Ordering)
+    → ordering_then a (ordering_then b c) ≡ ordering_then (ordering_then a b) c
+then_assoc Less b c = refl
+then_assoc Equal b c = refl
+then_assoc Greater b c = refl
 
 -- Where the negation of a value is false, the value is true.
 pub not_false : (b : Bool) → not b ≡ false → b ≡ true

@@ -10,7 +10,7 @@ use Rattle.std.proofs.lemmas.Str.{IsUtf8-from_ascii}
 use Rattle.std.proofs.lemmas.Str.Ascii.{IsAscii-nil, IsAscii-cons}
 use Rattle.lang_core.specs.LowerText.{is_nonzero_ascii, IsNonzeroAscii, IsShort, filled}
 use Rattle.lang_core.specs.LowerText.{spelled_number, KeepsShort}
-use Rattle.lang_core.proofs.Basics.{each_true}
+use Rattle.lang_core.proofs.Basics.{each_true, then_assoc}
 use Rattle.std.specs.Prelude.{suc, zero, slice_index, ◌==◌}
 use Rattle.std.specs.Cmp.{tied_itself, nat_cmp_is, ranks, unsigned_ties}
 use Rattle.std.specs.Cmp.Lexicographic.{slice_cmp, nat_list_cmp_total, texts_ties}
@@ -114,12 +114,6 @@ then_equal Less = refl
 then_equal Equal = refl
 then_equal Greater = refl
 
-then_then : (a b c : Ordering)
-    → ordering_then (ordering_then a b) c ≡ ordering_then a (ordering_then b c)
-then_then Less b c = refl
-then_then Equal b c = refl
-then_then Greater b c = refl
-
 -- the number that the bytes spell after n, the highest first
 abbrev spelt : ℕ → List ℕ → ℕ
 spelt n [] = n
@@ -137,7 +131,7 @@ cmp_spelt m n (x ∷ xs) (y ∷ ys) e p q =
     cmp_spelt (m * 256 + x) (n * 256 + y) xs ys (omega arith)
     (All-tail (λ b. b < 256) x xs p) (All-tail (λ b. b < 256) y ys q)
     ∙ (ap (λ r. ordering_then r (slice_cmp nat_cmp xs ys)) (one_digit m n x y own others)
-    ∙ then_then (nat_cmp m n) (nat_cmp x y) (slice_cmp nat_cmp xs ys))
+    ∙ sym (then_assoc (nat_cmp m n) (nat_cmp x y) (slice_cmp nat_cmp xs ys)))
 
 -- so many bytes from one on
 abbrev read : List ℕ → ℕ → ℕ → List ℕ

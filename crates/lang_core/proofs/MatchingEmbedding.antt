@@ -37,10 +37,11 @@ unfolding greedy
 greedy_star w wanted [] h = rw h refl
 greedy_star w wanted (g ∷ given) h = rw h refl
 
-none_left : (w : List ℕ) (wanted : List (List ℕ)) → is_star w ≡ false
+-- Greedy pairing fails where a subtag other than "*" is wanted and none is given.
+pub greedy_none : (w : List ℕ) (wanted : List (List ℕ)) → is_star w ≡ false
     → greedy (w ∷ wanted) [] ≡ false
 unfolding greedy
-none_left w wanted h = rw h refl
+greedy_none w wanted h = rw h refl
 
 step : (w g : List ℕ) (wanted given : List (List ℕ)) → is_star w ≡ false
     → greedy (w ∷ wanted) (g ∷ given)
@@ -53,7 +54,7 @@ step w g wanted given h = rw h refl
 embeds_head : (w : List ℕ) (wanted given : List (List ℕ)) → is_star w ≡ false
     → ((rest : List (List ℕ)) → greedy wanted rest ≡ true → Embeds (without_stars wanted) rest)
     → greedy (w ∷ wanted) given ≡ true → Embeds (w ∷ without_stars wanted) given
-embeds_head w wanted [] kept tail h = (let none = none_left w wanted kept in cc)
+embeds_head w wanted [] kept tail h = (let none = greedy_none w wanted kept in cc)
 embeds_head w wanted (g ∷ given) kept tail h =
     elim (one_step (bytes_eq w g) (nat_lt 1 (length g)) (greedy wanted given)
     (greedy (w ∷ wanted) given) (sym (step w g wanted given kept) ∙ h)) [
@@ -131,11 +132,6 @@ greedy_stop w g given rest kept h n = let q : nat_lt 1 (length g) ≡ false =
 pub greedy_pass : (w g : List ℕ) (given rest : List (List ℕ)) → is_star w ≡ false
     → bytes_eq w g ≡ false → 1 < length g → greedy (w ∷ rest) (g ∷ given) ≡ greedy (w ∷ rest) given
 greedy_pass w g given rest kept h n = step w g rest given kept ∙ rw (h, is_lt 1 (length g) n) refl
-
--- Greedy pairing fails where a subtag other than "*" is wanted and none is given.
-pub greedy_none : (w : List ℕ) (rest : List (List ℕ)) → is_star w ≡ false
-    → greedy (w ∷ rest) [] ≡ false
-greedy_none w rest kept = none_left w rest kept
 
 -- Where the first subtags match, a range matches a tag in the extended way just where greedy
 -- pairing of the others succeeds.

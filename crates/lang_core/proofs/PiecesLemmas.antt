@@ -117,7 +117,8 @@ pub pieces_join : (xs ys : List ℕ) → pieces (xs ++ 45 ∷ ys) ≡ pieces xs 
 unfolding pieces_by
 pieces_join xs ys = split_join xs ys
 
-not_hyphen : (b : ℕ) → (b ≡ 45 → ⊥) → (b == 45) ≡ false
+-- A byte that is not a hyphen does not test as one.
+pub not_hyphen : (b : ℕ) → (b ≡ 45 → ⊥) → (b == 45) ≡ false
 not_hyphen b n = grind (arith, nat_tests)
 
 -- A text without a hyphen is its one piece.

@@ -10,7 +10,7 @@ use Rattle.std.proofs.lemmas.Bool.Decides.{nat_tests}
 use Rattle.lang_core.specs.Text.{pieces, joined}
 use Rattle.lang_core.specs.Grammar.{is_run, is_letter, is_digit, is_alphanum, is_private_piece}
 use Rattle.lang_core.specs.Grammar.{basic_piece, AreAll}
-use Rattle.lang_core.proofs.Basics.{both, each_true, is_false, is_le, or_left}
+use Rattle.lang_core.proofs.Basics.{and_true, both, each_true, is_false, is_le, or_left}
 use Rattle.lang_core.proofs.SubtagCaseLemmas.{alphanums-lower, lower_alphanums, lowered}
 use Rattle.lang_core.proofs.KindLemmas.{run_of}
 use Rattle.lang_core.proofs.PiecesLemmas.{pieces_no_hyphen, pieces_join}
@@ -38,10 +38,6 @@ unfolding is_run is_private_piece
 run_alphanum low high s view len v p e = go where
   all : list_all is_alphanum s ≡ true
   all = ap (list_all is_alphanum) (sym v) ∙ (run_of is_alphanum 1 8 view p).all
-
-  and_true : (a : Bool) → a && true ≡ a
-  and_true true = refl
-  and_true false = refl
 
   go : len ≡ ((nat_le low (length s) && nat_le (length s) high) && list_all is_alphanum s)
   go = rw (all, and_true (nat_le low (length s) && nat_le (length s) high)) e

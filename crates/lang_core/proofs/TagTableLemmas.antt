@@ -20,7 +20,8 @@ use Rattle.lang_core.specs.declared.stage.Stage.{Stage}
 use Rattle.lang_core.specs.declared.stage.Stage.TheVariants.{Start, Language, Script, Variants}
 use Rattle.lang_core.specs.declared.stage.Stage.TheVariants.{Singleton, Extension, PrivateStart}
 use Rattle.lang_core.specs.declared.stage.Stage.TheVariants.{Private}
-use Rattle.lang_core.proofs.Basics.{cases_bool, each_true, both, is_false, le_is, is_le, lt_is}
+use Rattle.lang_core.proofs.Basics.{and_true, cases_bool, each_true, both, is_false, le_is, is_le}
+use Rattle.lang_core.proofs.Basics.{lt_is, or_false}
 use Rattle.lang_core.proofs.KindLemmas.{run_of}
 use Rattle.lang_core.proofs.GrammarLemmas.{accepts_next}
 use Rattle.lang_core.proofs.PiecesLemmas.{some_pieces}
@@ -141,11 +142,6 @@ stage_next o n l d f x =
     stage_by o (within 2 3 n && l) (within 4 8 n && l) (within 3 3 n && l) (within 4 4 n && l)
     ((within 2 2 n && l) || (within 3 3 n && d)) (within 5 8 n || (within 4 4 n && f)) x
     (within 1 1 n && not x) (within 2 8 n) (within 1 8 n)
-
--- A test and true is the test.
-pub and_true : (a : Bool) → a && true ≡ a
-and_true true = refl
-and_true false = refl
 
 run_any : (low high : ℕ) (s : List ℕ) → list_all is_alphanum s ≡ true
     → is_run is_alphanum low high s ≡ within low high (length s)
@@ -553,10 +549,6 @@ class_from_table table b h low =
 and_assoc : (a b c : Bool) → a && (b && c) ≡ (a && b) && c
 and_assoc true b c = refl
 and_assoc false b c = refl
-
-or_false : (a : Bool) → a || false ≡ a
-or_false true = refl
-or_false false = refl
 
 -- A successor does not test as zero.
 pub not_zero : (n : ℕ) → (suc n == 0) ≡ false

@@ -12,7 +12,7 @@ use Rattle.lang_core.proofs.Basics.{cases_bool, each_true, both, and_false}
 use Rattle.lang_core.proofs.TruncationsLemmas.{truncated_one, truncated_push, is_cut_one}
 use Rattle.lang_core.proofs.TruncationsLemmas.{is_cut_push}
 use Rattle.lang_core.proofs.LookupTextLemmas.{no_star}
-use Rattle.lang_core.proofs.TagTableLemmas.{and_true}
+use Rattle.lang_core.proofs.Basics.{and_true}
 
 -- ---- a list and its last subtag
 

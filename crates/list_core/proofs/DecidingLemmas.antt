@@ -10,7 +10,8 @@ use Rattle.lang_core.specs.Matching.{Basic}
 use Rattle.std.specs.Str.{bytes_eq}
 use Rattle.std.proofs.lemmas.Slice.Eq.{bytes_eq-Decides}
 use Rattle.list_core.proofs.Basics.{same_at, stands_at}
-use Rattle.list_core.proofs.FirstTriedPrefixes.{IsTextFront, joined-pieces, star_pieces}
+use Rattle.lang_core.proofs.PiecesLemmas.{joined-pieces}
+use Rattle.list_core.proofs.FirstTriedPrefixes.{IsTextFront, star_pieces}
 use Rattle.list_core.proofs.FirstTriedPrefixes.{front_of_text}
 use Rattle.list_core.proofs.FirstTriedPrefixes.{text_of_front, front_within, front_is_take}
 use Rattle.list_core.proofs.FirstTriedPrefixes.{take_is_front}

@@ -22,7 +22,8 @@ use Rattle.list_core.proofs.LookupOrderLemmas.{one_keys}
 use Rattle.list_core.proofs.Basics.{same_at, same_default, stands_at}
 use Rattle.list_core.proofs.FirstTriedPrefixes.{IsTextFront, front_is_take, front_of_text}
 use Rattle.list_core.proofs.FirstTriedPrefixes.{front_within}
-use Rattle.list_core.proofs.FirstTriedPrefixes.{joined-pieces, star_pieces, take_is_front}
+use Rattle.lang_core.proofs.PiecesLemmas.{joined-pieces}
+use Rattle.list_core.proofs.FirstTriedPrefixes.{star_pieces, take_is_front}
 use Rattle.list_core.proofs.FirstTriedPrefixes.{text_of_front}
 
 -- ---- the first keys
@@ -255,6 +256,9 @@ text_of items text other p w u =
     w.stands)
     ∙ u.same)
 
+the_item : (o : Option Item) (x y : Item) → o ≡ Some x → o ≡ Some y → x ≡ y
+the_item o x y s t = let both : Some x ≡ Some y = sym s ∙ t in cc
+
 -- The next key's range is the first of its text.
 pub lead_found : (items : List Item) (keys : List OrderKey) (n : ℕ) (firsts : List ℕ) (k : OrderKey)
     (p x : ℕ) → n < length keys → k ≡ get_or keys n k → IsFirstAlike items k.place (Some p)
@@ -296,13 +300,11 @@ lead_found items keys n firsts k p x low e a read is_free h =
             (leads_next items keys n text (slice_index firsts place)
             (λ i s same. differs (one_text items text place p w
             (subst (λ (t : List ℕ). IsFirstWith items t p)
-            (ap (λ (x : Item). x.range) (the_item own.0 i here s) ∙ same) own.2)))
+            (ap (λ (x : Item). x.range)
+            (the_item (item_tried items keys n) own.0 i here s) ∙ same) own.2)))
             (h.1 text place w))
       ],
-    ) where
-      the_item : (x y : Item) → item_tried items keys n ≡ Some x → item_tried items keys n ≡ Some y
-          → x ≡ y
-      the_item x y s t = let both : Some x ≡ Some y = sym s ∙ t in cc
+    )
 
 -- The next key's range was tried before.
 pub lead_again : (items : List Item) (keys : List OrderKey) (n : ℕ) (firsts : List ℕ) (k : OrderKey)
@@ -323,14 +325,12 @@ lead_again items keys n firsts k p x low e a read is_taken h =
             leads_next items keys n text (slice_index firsts place)
             (λ i s same.
             let u = subst (λ (t : List ℕ). IsFirstWith items t p)
-            (ap (λ (x : Item). x.range) (the_item own.0 i here s) ∙ same) own.2 in
+            (ap (λ (x : Item). x.range)
+            (the_item (item_tried items keys n) own.0 i here s) ∙ same) own.2 in
             taken (ap (slice_index firsts) (one_text items text p place u w) ∙ none.0))
             (inl none)
       ],
-    ) where
-      the_item : (x y : Item) → item_tried items keys n ≡ Some x → item_tried items keys n ≡ Some y
-          → x ≡ y
-      the_item x y s t = let both : Some x ≡ Some y = sym s ∙ t in cc
+    )
 
 -- The next key has no item.
 pub lead_passed : (items : List Item) (keys : List OrderKey) (n : ℕ) (firsts : List ℕ)

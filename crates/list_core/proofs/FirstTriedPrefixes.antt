@@ -1,70 +1,17 @@
 -- Fronts of a text: what comes before a hyphen, or the whole.
-use Rattle.std.proofs.Common.{ℕ, ◌≡◌, ◌<◌, ◌+◌, ◌⊎◌, List, [], ◌∷◌, ◌++◌, Bool, true, false, cond}
-use Rattle.std.proofs.Common.{inl, inr, refl, sym, ◌∙◌, ap, arith, length, get_or, take, drop}
-use Rattle.std.proofs.Common.{append_assoc, append-nil, length-append, drop-cons, add-one, eqb}
-use Rattle.std.specs.List.{slice_split, onto_first}
-use Rattle.std.proofs.lemmas.Bool.{cases_Bool}
+use Rattle.std.proofs.Common.{ℕ, ◌≡◌, ◌<◌, ◌+◌, ◌⊎◌, List, [], ◌∷◌, ◌++◌, inl}
+use Rattle.std.proofs.Common.{inr, refl, sym, ◌∙◌, ap, arith, length, get_or, take, drop}
+use Rattle.std.proofs.Common.{append-nil, length-append, drop-cons, add-one}
 use Rattle.std.proofs.lemmas.List.{take-append-drop, take-append-le, take_all, get_or-append-add}
-use Rattle.std.proofs.lemmas.List.Splits.{join_with_byte-slice_split}
 use Rattle.lang_core.specs.Text.{pieces_by, pieces, joined}
 use Rattle.lang_core.specs.Matching.{IsFront}
-
--- The pieces of a text, joined again, are the text.
-pub joined-pieces : (text : List ℕ) → joined (pieces text) ≡ text
-unfolding pieces_by
-joined-pieces text = join_with_byte-slice_split 45 text
+use Rattle.lang_core.proofs.MatchingFrontsLemmas.{joined_some}
+use Rattle.lang_core.proofs.PiecesLemmas.{joined-pieces, pieces_join, some_pieces}
 
 -- The text "*" has the one piece "*".
 pub star_pieces : pieces (42 ∷ []) ≡ (42 ∷ []) ∷ []
 unfolding pieces_by
 star_pieces = refl
-
--- ---- the pieces of a front
-
-onto_append : (b : ℕ) (first more : List (List ℕ)) → ((first ≡ []) → ⊥)
-    → onto_first b (first ++ more) ≡ onto_first b first ++ more
-onto_append b [] more some = absurd (some refl)
-onto_append b (p ∷ first) more some = refl
-
-split_some : (text : List ℕ) → slice_split (λ c. eqb c 45) text ≡ [] → ⊥
-split_some [] h = cc
-split_some (b ∷ text) h = some_on (eqb b 45) b (slice_split (λ c. eqb c 45) text) h where
-  some_on : (t : Bool) (b : ℕ) (rest : List (List ℕ)) → cond t ([] ∷ rest) (onto_first b rest) ≡ []
-      → ⊥
-  some_on true b rest h = cc
-  some_on false b [] h = cc
-  some_on false b (r ∷ rest) h = cc
-
-split_append : (front rest : List ℕ)
-    → slice_split (λ c. eqb c 45) (front ++ 45 ∷ rest)
-    ≡ slice_split (λ c. eqb c 45) front ++ slice_split (λ c. eqb c 45) rest
-split_append [] rest = refl
-split_append (b ∷ front) rest =
-    let more = split_append front rest in
-    elim (cases_Bool (eqb b 45)) [
-      | inl e ↦ rw (e, more) refl
-      | inr e ↦
-          rw (e, more)
-          (onto_append b (slice_split (λ c. eqb c 45) front) (slice_split (λ c. eqb c 45) rest)
-          (split_some front))
-    ]
-
-pieces_append : (front rest : List ℕ) → pieces (front ++ 45 ∷ rest) ≡ pieces front ++ pieces rest
-unfolding pieces_by
-pieces_append front rest = split_append front rest
-
-pieces_some : (text : List ℕ) → pieces text ≡ [] → ⊥
-unfolding pieces_by
-pieces_some text h = split_some text h
-
-joined_append : (a b : List (List ℕ)) (s : List ℕ) → ((a ≡ []) → ⊥)
-    → joined (a ++ s ∷ b) ≡ joined a ++ 45 ∷ joined (s ∷ b)
-joined_append [] b s some = absurd (some refl)
-joined_append (x ∷ []) b s some = refl
-joined_append (x ∷ y ∷ a) b s some =
-    let rest = joined_append (y ∷ a) b s (λ h. let g : y ∷ a ≡ [] = h in cc) in
-    ap (λ (z : List ℕ). x ++ 45 ∷ z) rest
-    ∙ sym (append_assoc x (45 ∷ joined (y ∷ a)) (45 ∷ joined (s ∷ b)))
 
 -- ---- texts and their pieces
 
@@ -76,7 +23,7 @@ IsTextFront front text = (text ≡ front) ⊎ ((rest : List ℕ) × (text ≡ fr
 pub front_of_text : (front text : List ℕ) → IsTextFront front text
     → IsFront (pieces front) (pieces text)
 front_of_text front text (inl e) = ([], ap pieces e ∙ sym (append-nil (pieces front)))
-front_of_text front text (inr r) = (pieces r.0, ap pieces r.1 ∙ pieces_append front r.0)
+front_of_text front text (inr r) = (pieces r.0, ap pieces r.1 ∙ pieces_join front r.0)
 
 text_on : (front text : List ℕ) (rest : List (List ℕ)) → pieces text ≡ pieces front ++ rest
     → IsTextFront front text
@@ -88,7 +35,7 @@ text_on front text (s ∷ rest) e =
       joined (s ∷ rest),
       sym (joined-pieces text)
           ∙ (ap joined e
-          ∙ (joined_append (pieces front) rest s (pieces_some front)
+          ∙ (joined_some (pieces front) s rest (some_pieces front)
           ∙ ap (λ (x : List ℕ). x ++ 45 ∷ joined (s ∷ rest)) (joined-pieces front))),
     )
 

@@ -1,5 +1,5 @@
 -- A range that matches begins as the tag does, or with "*".
-use Rattle.std.proofs.Common.{ℕ, ◌≡◌, ◌<◌, ◌==◌, ◌⊎◌, inl, inr, List, [], ◌∷◌, ◌++◌, true, false}
+use Rattle.std.proofs.Common.{ℕ, ◌≡◌, ◌<◌, ◌==◌, ◌⊎◌, inl, inr, List, [], ◌∷◌, ◌++◌, false}
 use Rattle.std.proofs.Common.{length, refl, sym, ◌∙◌, ap, arith}
 use Rattle.std.specs.Prelude.{IsTrue, ◌↔◌, slice_index}
 use Rattle.std.specs.List.{slice_split, onto_first}
@@ -7,7 +7,8 @@ use Rattle.std.proofs.lemmas.Bool.Decides.{nat_tests}
 use Rattle.std.proofs.lemmas.List.Splits.{slice_split-cons_yes, slice_split-cons_no}
 use Rattle.std.proofs.lemmas.List.Splits.{length-slice_split}
 use Rattle.lang_core.specs.Text.{pieces, pieces_by}
-use Rattle.lang_core.specs.Grammar.{is_star}
+use Rattle.lang_core.proofs.PiecesLemmas.{not_hyphen, some_pieces}
+use Rattle.lang_core.proofs.RangeStars.{star_only}
 use Rattle.list_core.specs.Deciding.{Matches}
 use Rattle.list_core.specs.Item.{first_byte}
 use Rattle.list_core.specs.declared.scheme.Scheme.{Scheme}
@@ -32,10 +33,8 @@ first_onto b (p ∷ parts) n = refl
 first_of_text : (b : ℕ) (text : List ℕ) → (b ≡ 45 → ⊥) → first_byte (pieces (b ∷ text)) ≡ b
 unfolding pieces_by
 first_of_text b text n =
-    rw (slice_split-cons_no (λ x. x == 45) b text (other b n))
-    (first_onto b (slice_split (λ x. x == 45) text) (rw length-slice_split (omega arith))) where
-      other : (b : ℕ) → (b ≡ 45 → ⊥) → (b == 45) ≡ false
-      other b n = grind (arith, nat_tests)
+    rw (slice_split-cons_no (λ x. x == 45) b text (not_hyphen b n))
+    (first_onto b (slice_split (λ x. x == 45) text) (rw length-slice_split (omega arith)))
 
 -- A text that begins with a hyphen has an empty first subtag, whose first byte counts as 0.
 pub first_is_hyphen : (text : List ℕ) (first : ℕ) → first ≡ slice_index text 0 → first ≡ 45
@@ -56,16 +55,6 @@ first_is_other (b ∷ text) first e n = e ∙ sym (first_of_text b text (λ h. n
 
 -- ---- what a match says of it
 
-star_is : (s : List ℕ) → is_star s ≡ true → s ≡ 42 ∷ []
-unfolding is_star
-star_is [] h = cc
-star_is (b ∷ []) h = ap (λ (x : ℕ). x ∷ []) (grind (arith, nat_tests))
-star_is (b ∷ c ∷ s) h = cc
-
-some_pieces : (text : List ℕ) → 0 < length (pieces text)
-unfolding pieces_by
-some_pieces text = rw length-slice_split (omega arith)
-
 begins : (p : List ℕ) (a b : List (List ℕ)) → first_byte (p ∷ a) ≡ first_byte (p ∷ b)
 begins [] a b = refl
 begins (x ∷ p) a b = refl
@@ -82,7 +71,7 @@ first_same scheme.Basic range tag n (inr front) = inl (front_begins range tag fr
 first_same scheme.Extended [] tag n m = absurd m
 first_same scheme.Extended (r ∷ range) [] n m = absurd m
 first_same scheme.Extended (r ∷ range) (t ∷ tag) n m = elim m.0 [
-  | inl star ↦ inr (ap (λ (s : List ℕ). first_byte (s ∷ range)) (star_is r star))
+  | inl star ↦ inr (ap (λ (s : List ℕ). first_byte (s ∷ range)) (star_only r star))
   | inr same ↦ inl (ap (λ (s : List ℕ). first_byte (s ∷ range)) same ∙ begins t range tag)
 ]
 

@@ -33,7 +33,7 @@ use Rattle.json_docs.proofs.ScanningReadingLemmas.{converted-array}
 use Rattle.json_docs.specs.ScanningArrays.{ReadsItems}
 use Rattle.json_docs.specs.FaultChecks.{AllPass}
 use Rattle.json_docs.specs.ScanningReads.{Reads}
-use Rattle.map_docs.specs.LabelsChecks.{IsLabelOrNone, is_marked, is_repeated}
+use Rattle.map_docs.specs.LabelsChecks.{is_marked, is_repeated}
 use Rattle.map_docs.specs.LabelsChecks.{keys_checks, members_checks, message_checks, unless_marked}
 use Rattle.map_docs.specs.MapsLabels.{labelled, languages_of, rows_labels}
 use Rattle.map_docs.specs.MembersRows.{Keys, Rows, Strings, is_string_or_null, members_by}
@@ -47,7 +47,7 @@ use Rattle.map_docs.proofs.MapsLabelsLemmas.{all_under, insert_is_put, keys_pass
 use Rattle.map_docs.proofs.MapsLabelsLemmas.{row_unmarked, rows_labels_one, rows_pass, same_id}
 use Rattle.map_docs.proofs.MapsLabelsLemmas.{spelled_lower}
 use Rattle.map_docs.proofs.MembersLemmas.{members_by-put}
-use Rattle.map_docs.proofs.WritingTripLemmas.{unmarked}
+use Rattle.map_docs.proofs.WritingTripLemmas.{is_label, unmarked}
 
 -- ---- a member more
 
@@ -86,10 +86,6 @@ is_one key [] label lower = let some = label.count.some in absurd (none some)
     none : 0 < length {A = List ℕ} [] → ⊥
     none h = omega (arith, h)
 is_one key (t ∷ ts) label lower = ap (λ l. (l, t ∷ ts) ∷ []) (sym lower)
-
-is_label : (texts : List (List ℕ)) → IsLabel texts → IsLabelOrNone texts
-is_label [] label = tt
-is_label (t ∷ ts) label = label
 
 -- the keys so far, the last of which is this one, are in lower case and ascend; they pass all tests
 pub record AreAscendingKeys (last : List ℕ) (keys : Keys) : Type 0 where

@@ -22,6 +22,7 @@ use Rattle.std.specs.Ordering.{is_eq, is_lt, match_ordering, ordering_then}
 use Rattle.std.specs.Cmp.Lexicographic.{nat_list_cmp_total}
 use Rattle.std.specs.Str.{bytes_eq, str_to_ascii_lowercase}
 use Rattle.std.specs.declared.cmp.Ordering.TheVariants.{Less, Equal, Greater}
+use Rattle.lang_core.proofs.Basics.{or_false}
 use Rattle.cell_core.specs.Keyed.{IsMap}
 use Rattle.cell_core.specs.MessageId.{IsMessageId}
 use Rattle.catalogue.proofs.CatalogueFlatLemmas.{all_first, all_rest}
@@ -238,10 +239,6 @@ is_some_cond true x (Some y) = refl
 is_some_cond false x None = refl
 is_some_cond false x (Some y) = refl
 
-or_false : (b : Bool) → b ≡ (b || false)
-or_false true = refl
-or_false false = refl
-
 -- one key more is found with its label
 pub HoldsKeys-next : (before : Keys) (found new : Found) (key lang : List ℕ) (texts : List (List ℕ))
     (label : Option (List (List ℕ)))
@@ -259,7 +256,7 @@ HoldsKeys-next before found new key lang texts label holds is absent of_texts en
           ∙ is_some_cond (is_eq (text_cmp lang q)) label (lookup (is_at (text_cmp q)) found)
           ∙ ap₂ (λ a b. a || b) (holds.held q)
           (is_eq-slice_cmp lang q ∙ ap (λ l. bytes_eq l q) is
-          ∙ or_false (bytes_eq (str_to_ascii_lowercase key) q))
+          ∙ sym (or_false (bytes_eq (str_to_ascii_lowercase key) q)))
           ∙ sym (list_any-append (λ (m : List ℕ × Strings). bytes_eq (str_to_ascii_lowercase m.0) q)
           before ((key, Some texts) ∷ []));
       labels =

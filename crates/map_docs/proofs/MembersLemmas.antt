@@ -1,5 +1,5 @@
 -- Rows that are read off tokens, or off a value.
-use Rattle.std.proofs.Common.{◌≡◌, ◌∙◌, ◌++◌, ◌&&◌, ◌<◌, ◌+◌, ℕ, zero, suc, Bool, true, false, List}
+use Rattle.std.proofs.Common.{◌≡◌, ◌∙◌, ◌++◌, ◌&&◌, ◌<◌, ◌+◌, ℕ, zero, suc, false, List}
 use Rattle.std.proofs.Common.{[], ◌∷◌, map, take, length, get_or, None, Some, String, Global}
 use Rattle.std.proofs.Common.{string_bytes, string_cmp, refl, sym, ap, add-one, arith}
 use Rattle.std.specs.Prelude.{if◌then◌else◌}
@@ -12,6 +12,7 @@ use Rattle.std.specs.FinMap.Entries.{by_order, put}
 use Rattle.std.specs.List.{filter_map, list_all}
 use Rattle.std.specs.Ordering.{match_ordering}
 use Rattle.std.specs.declared.cmp.Ordering.TheVariants.{Less, Equal, Greater}
+use Rattle.lang_core.proofs.Basics.{and_false, and_true}
 use Rattle.cell_core.specs.Entry.{text_cmp}
 use Rattle.json.specs.declared.value.Value.{Value}
 use Rattle.serde_json.specs.Data as plain
@@ -90,10 +91,6 @@ item_strings-push vs k v h is =
     ∙ ap (filter_map as_str) (map-append seen (take k vs) (v ∷ []))
     ∙ filter_map-append as_str (map seen (take k vs)) (seen v ∷ [])
 
-and_true : (b : Bool) → (b && true) ≡ b
-and_true true = refl
-and_true false = refl
-
 -- one item more is to be a string or null
 pub items_fit-push : (vs : List (Value Global)) (k : ℕ) (v : Value Global) → k < length vs
     → v ≡ get_or vs k v
@@ -116,10 +113,6 @@ misfit_at (w ∷ vs) zero v h is wrong =
 misfit_at (w ∷ vs) (suc k) v h is wrong =
     ap (λ b. is_string_or_null (seen w) && b) (misfit_at vs k v (omega arith) is wrong)
     ∙ and_false (is_string_or_null (seen w))
-  where
-    and_false : (b : Bool) → (b && false) ≡ false
-    and_false true = refl
-    and_false false = refl
 
 -- an item that is neither string nor null
 pub misfit : (vs : List (Value Global)) (k : ℕ) (v : Value Global) → k < length vs

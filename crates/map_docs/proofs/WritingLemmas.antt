@@ -3,6 +3,7 @@ use Rattle.std.proofs.Common.{◌≡◌, ◌∙◌, ◌++◌, ℕ, Bool, true, f
 use Rattle.std.proofs.Common.{subst}
 use Rattle.std.specs.Prelude.{◌||◌, Err, IfOk, IfSome, IsUtf8, None, Ok, Option, Result, Some}
 use Rattle.std.specs.Prelude.{is_some}
+use Rattle.lang_core.proofs.Basics.{or_false}
 use Rattle.cell_core.specs.Keyed.{IsMap}
 use Rattle.cell_core.specs.MessageId.{IsMessageId}
 use Rattle.cell_core.specs.Entry.{key_cmp}
@@ -22,10 +23,6 @@ use Rattle.map_docs.proofs.MapsLemmas.{one_written}
 or_true : (b : Bool) → (b || true) ≡ true
 or_true true = refl
 or_true false = refl
-
-or_false : (b : Bool) → (b || false) ≡ b
-or_false true = refl
-or_false false = refl
 
 -- nothing is written yet
 pub writing_first : (draft : Written) (all : List Labelled) → draft.before ≡ []

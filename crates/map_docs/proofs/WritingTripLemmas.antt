@@ -19,7 +19,7 @@ use Rattle.std.specs.declared.cmp.Ordering.TheVariants.{Less, Equal, Greater}
 use Rattle.cell_core.specs.Label.{IsLabel}
 use Rattle.cell_core.specs.Keyed.{IsMap}
 use Rattle.cell_core.specs.MessageId.{IsMessageId}
-use Rattle.catalogue.proofs.PlacesKeyLemmas.{below_lesser}
+use Rattle.cell_core.proofs.KeyedPlacesLemmas.{below-trans}
 use Rattle.cell_core.specs.Entry.{EntryKey, key_cmp, text_cmp}
 use Rattle.catalogue.specs.CatalogueFlat.{flat, under}
 use Rattle.json.specs.Json.{value}
@@ -236,7 +236,7 @@ with_label-ascends e (n ∷ ms) h m r = by_id (bytes_eq e.0.0 n.0) refl
           both_parts (below_all text_cmp e.0.0 (n ∷ ms)) (is_sorted text_cmp (n ∷ ms))
               (both_parts (is_lt (text_cmp e.0.0 n.0)) (below_all text_cmp e.0.0 ms)
               (is_less (text_cmp e.0.0 n.0) less)
-              (below_lesser text_cmp nat_list_cmp_total e.0.0 n.0 ms less behind)) m,
+              (below-trans text_cmp nat_list_cmp_total e.0.0 n.0 ms less behind)) m,
           (tt, (λ (never : 1 ≡ 0). absurd (omega arith)), r),
         )
 
@@ -371,9 +371,10 @@ spelled_back lang is lower = elim is [
   | inr tag ↦ (lang, inr (subst IsTag (sym lower) tag, sym lower))
 ]
 
-label_back : (texts : List (List ℕ)) → IsLabel texts → IsLabelOrNone texts
-label_back [] label = tt
-label_back (t ∷ ts) label = label
+-- A label is a label or none.
+pub is_label : (texts : List (List ℕ)) → IsLabel texts → IsLabelOrNone texts
+is_label [] label = tt
+is_label (t ∷ ts) label = label
 
 -- no earlier language is equal
 new_key : (before : List (List ℕ)) (lang : List ℕ)
@@ -397,7 +398,7 @@ keys_pass_back k id before (l ∷ ls) rest w m all = (
     (
       refl,
       (
-        label_back l.1 w.0.label,
+        is_label l.1 w.0.label,
         keys_pass_back k id (before ++ l.0 ∷ []) ls rest w.1
             (second_part (below_all text_cmp l.0 ls) (is_sorted text_cmp ls) m) (laters before all),
       ),

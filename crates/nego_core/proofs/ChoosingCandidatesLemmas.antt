@@ -10,7 +10,7 @@ use Rattle.std.proofs.lemmas.List.{drop_all}
 use Rattle.std.proofs.lemmas.List.Elements.{All-nil, All-cons, All-append, All-head, All-tail}
 use Rattle.lang_core.specs.Text.{pieces}
 use Rattle.list_core.proofs.Basics.{element_at, same_default, stands_at}
-use Rattle.list_core.proofs.FirstTriedPrefixes.{joined-pieces}
+use Rattle.lang_core.proofs.PiecesLemmas.{joined-pieces}
 use Rattle.list_core.proofs.DecidingLemmas.{one_item_weight, most_specific, weight_is}
 use Rattle.list_core.proofs.LookupOrderLemmas.{one_order_of}
 use Rattle.list_core.specs.Item.{Item}

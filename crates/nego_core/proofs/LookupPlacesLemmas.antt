@@ -4,7 +4,7 @@ use Rattle.std.proofs.Common.{length, refl, sym, ◌∙◌, ap, arith}
 use Rattle.std.specs.List.{list_any, position_or_len}
 use Rattle.std.proofs.lemmas.Bool.{cases_Bool, ltb-false}
 use Rattle.lang_core.specs.Text.{pieces, joined}
-use Rattle.list_core.proofs.FirstTriedPrefixes.{joined-pieces}
+use Rattle.lang_core.proofs.PiecesLemmas.{joined-pieces}
 use Rattle.lang_core.proofs.PiecesLemmas.{cond_none}
 use Rattle.nego_core.proofs.ChoosingCandidatesLemmas.{one_lookup}
 use Rattle.list_core.specs.Item.{Item}

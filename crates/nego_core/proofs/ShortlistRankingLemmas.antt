@@ -28,7 +28,7 @@ use Rattle.list_core.proofs.FirstTriedLemmas.{tried_at}
 use Rattle.nego_core.proofs.LangSetLemmas.{among_contains, contains_among}
 use Rattle.nego_core.proofs.ChoosingCandidatesLemmas.{first_append, first_front, ordered_items}
 use Rattle.nego_core.proofs.ChoosingCandidatesLemmas.{looked_up as looked_up_off}
-use Rattle.list_core.proofs.FirstTriedPrefixes.{joined-pieces}
+use Rattle.lang_core.proofs.PiecesLemmas.{joined-pieces}
 use Rattle.nego_core.proofs.WideningLemmas.{Fits, Open, all_widened, first_among, first_split}
 use Rattle.nego_core.proofs.WideningLemmas.{matched_are, matched_of, none_back, none_front}
 use Rattle.nego_core.proofs.WideningLemmas.{least_first, less_lt, looked_up as looked_up_by}

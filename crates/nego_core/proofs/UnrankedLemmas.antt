@@ -8,12 +8,12 @@ use Rattle.std.specs.Borrow.{Bor}
 use Rattle.std.specs.BTreeMap.{insert_entry}
 use Rattle.std.specs.Map.{lookup, remove_entry}
 use Rattle.std.specs.Cmp.Lexicographic.{slice_cmp}
-use Rattle.std.specs.Ordering.{is_eq, nat_cmp, ordering_reverse}
+use Rattle.std.specs.Ordering.{is_eq, nat_cmp}
 use Rattle.std.specs.Str.{bytes_eq}
 use Rattle.std.specs.declared.cmp.Ordering.{Ordering}
 use Rattle.std.specs.declared.cmp.Ordering.TheVariants.{Less, Equal, Greater}
 use Rattle.std.proofs.lemmas.Bool.{cases_Bool}
-use Rattle.std.proofs.lemmas.Cmp.{nat_list_cmp_total}
+use Rattle.std.proofs.lemmas.Cmp.{nat_list_cmp_total, tied_itself}
 use Rattle.std.proofs.lemmas.List.{length-append, length-map}
 use Rattle.std.proofs.lemmas.List.Elements.{All-cons, All-head, All-tail}
 use Rattle.std.proofs.lemmas.List.Elements.{Contains-append_cases, Contains-append_left}
@@ -37,18 +37,10 @@ text_is : (text k : List ℕ) → is_eq (slice_cmp nat_cmp text k) ≡ bytes_eq 
 text_is text k = elim (cases_Bool (bytes_eq k text)) [
   | inl same ↦
       let e : k ≡ text = (bytes_eq-Decides k text).0 same in
-      rw (same, e) (ap is_eq (itself text))
+      rw (same, e) (ap is_eq (tied_itself nat_list_cmp_total text))
   | inr other ↦ rw other (apart (slice_cmp nat_cmp text k) refl (λ e. false_true (sym other
       ∙ (bytes_eq-Decides k text).1 (sym (text_tied text k e)))))
 ] where
-  its_own : (o : Ordering) → o ≡ ordering_reverse o → o ≡ Equal
-  its_own Less e = cc
-  its_own Equal e = refl
-  its_own Greater e = cc
-
-  itself : (x : List ℕ) → slice_cmp nat_cmp x x ≡ Equal
-  itself x = its_own (slice_cmp nat_cmp x x) (nat_list_cmp_total.antisymm x x)
-
   apart : (o : Ordering) → slice_cmp nat_cmp text k ≡ o → ¬ (slice_cmp nat_cmp text k ≡ Equal)
       → is_eq o ≡ false
   apart Less e n = refl

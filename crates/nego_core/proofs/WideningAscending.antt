@@ -32,7 +32,8 @@ not_both x y h g = let back : Less ≡ Greater =
 above : (x y : List ℕ) → slice_cmp nat_cmp x y ≡ Greater → Ascends y x
 above x y h = nat_list_cmp_total.antisymm y x ∙ ap ordering_reverse h
 
-not_itself : (x : List ℕ) → ¬ Ascends x x
+-- No text is below itself.
+pub not_itself : (x : List ℕ) → ¬ Ascends x x
 not_itself x h = not_both x x h h
 
 -- ---- a text put in

@@ -32,7 +32,8 @@ use Rattle.list_core.proofs.FirstTriedLemmas.{tried_at}
 use Rattle.list_core.proofs.LookupOrderLemmas.{one_keys}
 use Rattle.nego_core.proofs.WideningLemmas.{Fits, MatchLeast, Open, by_candidate, by_match, by_none}
 use Rattle.nego_core.proofs.WideningLemmas.{first_among}
-use Rattle.nego_core.proofs.WideningLemmas.{less_lt, not_itself}
+use Rattle.nego_core.proofs.WideningAscending.{not_itself}
+use Rattle.nego_core.proofs.WideningLemmas.{less_lt}
 
 -- ---- one language
 

@@ -29,8 +29,8 @@ use Rattle.nego_core.proofs.LangSetLemmas.{among_contains, contains_among}
 use Rattle.nego_core.proofs.ChoosingCandidatesLemmas.{first_append, first_front, first_here}
 use Rattle.nego_core.proofs.ChoosingCandidatesLemmas.{first_later, one_first, ordered_items}
 use Rattle.list_core.proofs.LookupOrderLemmas.{one_order_of}
-use Rattle.list_core.proofs.FirstTriedPrefixes.{joined-pieces}
-use Rattle.nego_core.proofs.WideningAscending.{all_above, not_both, one_ascending, ascending_from}
+use Rattle.lang_core.proofs.PiecesLemmas.{joined-pieces}
+use Rattle.nego_core.proofs.WideningAscending.{all_above, one_ascending, ascending_from}
 use Rattle.nego_core.proofs.WideningAscending.{ascending_has}
 use Rattle.nego_core.proofs.WideningAscending.{ascending_is, ascending_of, ascending_tail}
 use Rattle.list_core.specs.Item.{Item}
@@ -259,10 +259,6 @@ by_match s items langs i x n least = λ matched h.
 -- And the other way round.
 pub less_lt : (o : Ordering) → o ≡ Less → is_lt o ≡ true
 less_lt o e = ap is_lt e
-
--- No text is below itself.
-pub not_itself : (x : List ℕ) → ¬ Ascends x x
-not_itself x h = not_both x x h h
 
 -- ---- the walk over the keys
 

@@ -8,9 +8,9 @@ use Rattle.std.specs.List.{cons_option}
 use Rattle.std.specs.FinMap.Entries.{find}
 use Rattle.std.specs.Option.{is_none}
 use Rattle.std.specs.Cmp.Lexicographic.{nat_list_cmp_total}
-use Rattle.std.specs.Ordering.{is_eq, ordering_reverse}
-use Rattle.std.specs.declared.cmp.Ordering.{Ordering}
-use Rattle.std.specs.declared.cmp.Ordering.TheVariants.{Equal, Greater, Less}
+use Rattle.std.specs.Cmp.{tied_itself}
+use Rattle.std.specs.Ordering.{is_eq}
+use Rattle.std.specs.declared.cmp.Ordering.TheVariants.{Equal, Less}
 use Rattle.cell_core.specs.declared.cell.Cell.{Cell}
 use Rattle.cell_core.specs.Entry.{key_cmp, text_cmp}
 use Rattle.catalogue.specs.Entries.{Entries, Entry}
@@ -140,14 +140,9 @@ chosen_or_none messages id cells b is =
 
 -- ---- the cells of a message
 
-own_order : (o : Ordering) → o ≡ ordering_reverse o → o ≡ Equal
-own_order Less e = absurd (cc)
-own_order Equal e = refl
-own_order Greater e = absurd (cc)
-
 -- A text is tied with itself.
 pub same_text : (id : List ℕ) → text_cmp id id ≡ Equal
-same_text id = own_order (text_cmp id id) (nat_list_cmp_total.antisymm id id)
+same_text id = tied_itself nat_list_cmp_total id
 
 -- The time of the first cell of this language is that of the key.
 pub time_here : (id lang : List ℕ) (c : MessageCell) (cs : List MessageCell)

@@ -8,7 +8,8 @@ use Rattle.cell_core.specs.Keyed.{IsMap}
 use Rattle.cell_core.specs.declared.cell.Cell.{Cell}
 use Rattle.cell_core.specs.Entry.{EntryKey, key_cmp, key_cmp_total}
 use Rattle.catalogue.specs.Entries.{Entries}
-use Rattle.catalogue.proofs.EntriesFilteredLemmas.{below_tied_all, filter-IsMap, find-below}
+use Rattle.cell_core.proofs.KeyedPlacesLemmas.{find-below, below_tied}
+use Rattle.catalogue.proofs.EntriesFilteredLemmas.{filter-IsMap}
 use Rattle.map_docs.specs.Maps.{Labelled}
 use Rattle.query_docs.specs.Chosen.{chosen_labels, is_chosen}
 use Rattle.query_docs.specs.Exporting.{label_at, live_labels}
@@ -73,7 +74,7 @@ find-live q (e ∷ es) m =
       | true ↦ λ t.
           let none =
           find-below key_cmp q es
-          (below_tied_all key_cmp key_cmp_total q e.0 es (tied (key_cmp q e.0) t) below) in
+          (below_tied key_cmp key_cmp_total q e.0 es (tied (key_cmp q e.0) t) below) in
           elim e.1.label as (λ o. find key_cmp q (labelled e.0 o (live_labels es)) ≡ o) [
             | None ↦ rest ∙ ap label_in none
             | Some label ↦ ap (λ b. cond b (Some label) (find key_cmp q (live_labels es))) t

@@ -20,7 +20,7 @@ use Rattle.query_docs.specs.Draft.{labelled_by}
 use Rattle.query_docs.specs.LiveCells.{label_of, labels_of}
 use Rattle.query_docs.specs.LiveCellsLookup.{answered, answered_of}
 use Rattle.query_docs.specs.declared.by_message.MessageCell.{MessageCell}
-use Rattle.json_docs.proofs.ScanningReadableLemmas.{both_true as both}
+use Rattle.lang_core.proofs.Basics.{and_true, each_true as both}
 use Rattle.cell_core.proofs.Basics.{tied_order as tied}
 use Rattle.query_docs.proofs.ChosenLemmas.{same_text}
 
@@ -84,12 +84,8 @@ found_after text c cs is = elim (texts_of c.label) as (λ o.
       | None ↦ λ no. refl
       | Some label ↦ λ ne.
           ap (λ b. cond b (Some label) (find text_cmp text (labels_of cs)))
-          (other (is_eq (text_cmp text c.lang)) ne)
+          (sym (and_true (is_eq (text_cmp text c.lang))) ∙ ne)
     ] is
-  where
-    other : (a : Bool) → (a && true) ≡ false → a ≡ false
-    other true ne = ne
-    other false ne = refl
 
 -- What is live has a label, which is found.
 pub found_live_label : (labels : Labelled) (text : List ℕ)

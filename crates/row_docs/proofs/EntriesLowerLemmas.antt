@@ -8,7 +8,7 @@ use Rattle.lang_core.specs.Grammar.{are_allowed, is_alphanum, is_private_piece, 
 use Rattle.lang_core.specs.Lang.{IsLang, SpellsLang}
 use Rattle.lang_core.specs.Text.{joined, pieces}
 use Rattle.lang_core.proofs.PiecesLemmas.{joined-pieces, pieces-lower}
-use Rattle.json_docs.proofs.ScanningReadableLemmas.{both_true}
+use Rattle.lang_core.proofs.Basics.{each_true}
 use Rattle.lang_core.proofs.SubtagCaseLemmas.{lower_alphanums as lower_piece}
 use Rattle.catalogue.proofs.Basics.{second_so as second_true}
 
@@ -19,7 +19,7 @@ run_bytes s h = second_true _ (list_all is_alphanum s) h
 lower_pieces : (k : ℕ) (ss : List (List ℕ)) → are_allowed tag_piece k ss ≡ true
     → map str_to_ascii_lowercase ss ≡ ss
 lower_pieces k [] h = refl
-lower_pieces k (s ∷ ss) h = let both = both_true (is_private_piece s) _ h in
+lower_pieces k (s ∷ ss) h = let both = each_true (is_private_piece s) _ h in
     ap₂ (λ x xs. x ∷ xs) (lower_piece s (run_bytes s both.0)) (lower_pieces (k + 1) ss both.1)
 
 lower_tag : (text : List ℕ) → are_allowed tag_piece 0 (pieces text) ≡ true

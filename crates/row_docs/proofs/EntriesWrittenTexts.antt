@@ -46,12 +46,14 @@ pub record AreWritten (ds : Items) (most : ℕ) : Type 0 where
   pub shallow : tree.items_depth (items_outline ds) ≤ most
   pub back : of_items (items_outline ds) ≡ Some ds
 
-record IsWritten (d : Data) (most : ℕ) : Type 0 where
-  numbers : HasNumbers (outline d)
-  shallow : tree.depth (outline d) ≤ most
-  back : of_json (outline d) ≡ Some d
+-- the same of one value
+pub record IsWritten (d : Data) (most : ℕ) : Type 0 where
+  pub numbers : HasNumbers (outline d)
+  pub shallow : tree.depth (outline d) ≤ most
+  pub back : of_json (outline d) ≡ Some d
 
-one_more : (d : Data) (ds : Items) (most : ℕ) → IsWritten d most → AreWritten ds most
+-- One value more, in front of the others.
+pub one_more : (d : Data) (ds : Items) (most : ℕ) → IsWritten d most → AreWritten ds most
     → AreWritten (item d ds) most
 one_more d ds most p q = record {
   numbers = (p.numbers, q.numbers);
@@ -64,7 +66,8 @@ texts_written [] = record { numbers = tt; shallow = omega arith; back = refl }
 texts_written (t ∷ ts) = one_more (string t) (items_of (map string ts)) 0
     (record { numbers = tt; shallow = omega arith; back = refl }) (texts_written ts)
 
-label_written : (label : Option (List (List ℕ))) → IsWritten (label_value label) 1
+-- The value of a label holds what a text may.
+pub label_written : (label : Option (List (List ℕ))) → IsWritten (label_value label) 1
 label_written None = record { numbers = tt; shallow = omega arith; back = refl }
 label_written (Some texts) =
     let all = texts_written texts in

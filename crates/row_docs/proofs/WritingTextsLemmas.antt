@@ -19,7 +19,7 @@ use Rattle.serde_json.specs.Data.{Data, array, string}
 use Rattle.serde_json.specs.View.{items_of}
 use Rattle.serde_json.specs.Written.{items_outline}
 use Rattle.row_docs.specs.WritingTexts.{Adds, row_tokens, text, value_tokens}
-use Rattle.row_docs.specs.WritingSeen.{texts_of}
+use Rattle.cell_core.specs.Label.{texts_of}
 
 -- what was added in two steps
 pub Adds-then : (a b c : Written) (x y : List Token) → Adds a b x → Adds b c y → Adds a c (x ++ y)

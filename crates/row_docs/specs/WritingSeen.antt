@@ -1,5 +1,5 @@
 -- What is written, without where it lies in memory.
-use Rattle.std.specs.Prelude.{ℕ, List, [], ◌∷◌, map, decimal, string_bytes, String}
+use Rattle.std.specs.Prelude.{List, [], ◌∷◌, decimal}
 use Rattle.json.specs.Token.{Token, number, string}
 use Rattle.row_docs.specs.EntriesValues.{Row}
 use Rattle.row_docs.specs.declared.writing.WrittenRow.{WrittenRow}
@@ -13,10 +13,6 @@ row_of row = record {
   site = row.site.now;
   count = row.count;
 }
-
--- the bytes of each text
-abbrev pub texts_of : {A : Type 0} → List (String A) → List (List ℕ)
-texts_of texts = map string_bytes texts
 
 -- the tokens of a key and a stamp
 abbrev pub parts_tokens : Row → List Token

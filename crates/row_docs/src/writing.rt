@@ -7,7 +7,8 @@ ghost use Rattle.json.specs.Token.{string, null};
 ghost use Rattle.serde_json.specs.Data.{Data};
 ghost use Rattle.row_docs.specs.WritingTexts.{Adds, value_tokens};
 ghost use Rattle.row_docs.specs.EntriesValues.{cell_value, label_value, stamp_value, texts_value};
-ghost use Rattle.row_docs.specs.WritingSeen.{parts_tokens, row_of, texts_of};
+ghost use Rattle.cell_core.specs.Label.{texts_of};
+ghost use Rattle.row_docs.specs.WritingSeen.{parts_tokens, row_of};
 
 use json::Writer;
 use json_docs::Doc;

@@ -11,12 +11,14 @@ use Rattle.std.proofs.lemmas.Bool.Decides.{nat_tests}
 use Rattle.std.proofs.lemmas.List.{length-map}
 use Rattle.std.proofs.lemmas.List.Elements.{All-append, All-cons, All-head, All-nil, All-tail}
 use Rattle.std.proofs.lemmas.List.Splits.{slice_split_at, slice_split_none}
-use Rattle.lang_core.specs.Grammar.{ExtendedRange, is_digit}
+use Rattle.lang_core.specs.Grammar.{is_digit}
 use Rattle.lang_core.specs.Range.{IsRange}
 use Rattle.lang_core.specs.Text.{pieces, pieces_by}
 use Rattle.lang_core.proofs.LookupTextLemmas.{lower-range}
 use Rattle.lang_core.proofs.PiecesLemmas.{size_pieces, size_cons}
-use Rattle.lang_core.proofs.RangeText.{basic_extended, is_range_byte, range_bytes}
+use Rattle.lang_core.proofs.RangeText.{is_range_byte, range_bytes}
+use Rattle.list_core.proofs.FieldElementLemmas.{range_is_extended}
+use Rattle.list_core.proofs.FieldSeparatorLemmas.{no_pieces}
 use Rattle.list_core.specs.Field.{IsElement, IsPadded, RangeGrammar, WeightGrammar}
 use Rattle.list_core.specs.Field.{ArePieces, IsField, RefusesField}
 use Rattle.list_core.specs.Item.{Item, item_eq, item_equiv}
@@ -301,11 +303,6 @@ plain_weight n h = elim (cases_Bool (n == 1000)) [
 
 -- ---- an element
 
-extended_of : (scheme : Scheme) (text : List ℕ) → IsRange (RangeGrammar scheme) text
-    → ExtendedRange (pieces text)
-extended_of Basic text h = basic_extended (pieces text) h.1
-extended_of Extended text h = h.1
-
 -- the element that is written for an item that some piece gives
 record IsAgain (scheme : Scheme) (piece : List ℕ) (item : Item) : Type 0 where
   fits : IsPadded scheme (item_text item) item
@@ -319,7 +316,7 @@ element_again scheme piece item small p =
     let lower_size : length (str_to_ascii_lowercase e.range) ≡ length e.range = simp length-map in
     let range_ok : IsRange (RangeGrammar scheme) item.range =
     subst (IsRange (RangeGrammar scheme)) (sym e.range_is) e.range_ok in
-    let extended = extended_of scheme item.range range_ok in
+    let extended = range_is_extended scheme item.range range_ok in
     let own : str_to_ascii_lowercase item.range ≡ item.range = lower-range item.range extended in
     let weight = weight_again scheme e.weight item.weight small e.weight_ok in
     let element : IsElement scheme (item_text item) item = record {
@@ -413,10 +410,6 @@ field_pieces : (i : Item) (items : List Item) → ArePlain (i ∷ items)
     → pieces_by 44 (field_text (i ∷ items)) ≡ map item_text (i ∷ items)
 unfolding pieces_by
 field_pieces i items plain = split_again (item_text i) items plain.0 plain.1
-
-no_pieces : pieces_by 44 [] ≡ [] ∷ []
-unfolding pieces_by
-no_pieces = refl
 
 field_again : (scheme : Scheme) (text : List ℕ) (items : List Item)
     → IsField scheme Refused text items

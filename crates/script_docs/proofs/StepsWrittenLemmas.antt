@@ -1,5 +1,5 @@
 -- Rows that were written for steps are read as these steps.
-use Rattle.std.proofs.Common.{◌≡◌, ◌<◌, ◌≤◌, ◌^◌, ◌++◌, ℕ, List, [], ◌∷◌, map, refl, ap, ap₂, subst}
+use Rattle.std.proofs.Common.{◌≡◌, ◌<◌, ◌^◌, ◌++◌, ℕ, List, [], ◌∷◌, map, refl, ap, ap₂, subst}
 use Rattle.std.proofs.Common.{sym, arith}
 use Rattle.std.specs.Prelude.{None, Option, Some, option_map}
 use Rattle.std.specs.Str.{str_to_ascii_lowercase}
@@ -7,22 +7,18 @@ use Rattle.catalogue.specs.Entries.{Entry}
 use Rattle.cata_core.specs.declared.step.Step.{Step}
 use Rattle.cata_core.specs.declared.step.Step.TheVariants.{AskFilter, AskLookup, Edit}
 use Rattle.cell_core.specs.MessageId.{IsMessageId}
-use Rattle.json.specs.Tree.{HasNumbers, ItemsHaveNumbers}
-use Rattle.json.specs.Tree as tree
 use Rattle.json.proofs.Printed.Decimals.{IsNumber-decimal}
 use Rattle.list_core.specs.Item.{Item}
 use Rattle.list_core.specs.declared.scheme.Scheme.{Scheme}
 use Rattle.list_core.specs.declared.scheme.Scheme.TheVariants.{Basic, Extended}
-use Rattle.serde_json.specs.Data.{Data, Items, item, string}
-use Rattle.serde_json.specs.Read.{of_items, of_json}
+use Rattle.serde_json.specs.Data.{Data}
 use Rattle.serde_json.specs.View.{items_of}
-use Rattle.serde_json.specs.Written.{items_outline, outline}
 use Rattle.serde_json.proofs.Numbers.{number_of-decimal}
 use Rattle.json_docs.specs.FaultChecks.{AllPass, rows_checks}
 use Rattle.row_docs.specs.Entries.{row_of}
 use Rattle.row_docs.specs.ShapesRows.{cell_in}
 use Rattle.row_docs.specs.EntriesValid.{IsKeptCell}
-use Rattle.row_docs.specs.EntriesValues.{Row, cell_value, label_value}
+use Rattle.row_docs.specs.EntriesValues.{Row, cell_value}
 use Rattle.row_docs.specs.declared.version.Version.TheVariants.{Two}
 use Rattle.script_docs.specs.FieldWriting.{field_text}
 use Rattle.script_docs.specs.Writing.{AreRowsOf}
@@ -34,6 +30,7 @@ use Rattle.script_docs.specs.StepsWritten.{step_row, step_value}
 use Rattle.json_docs.proofs.FaultChecksLemmas.{AllPass-both}
 use Rattle.row_docs.proofs.EntriesLowerLemmas.{lower-IsLang, spells-IsLang}
 use Rattle.row_docs.proofs.EntriesWrittenRows.{label_again, narrow}
+use Rattle.row_docs.proofs.EntriesWrittenTexts.{AreWritten, IsWritten, label_written, one_more}
 use Rattle.script_docs.proofs.StepsLemmas.{step_passes}
 
 -- ---- the text of a row
@@ -56,44 +53,13 @@ row_again (deliver_step post) h = rw (narrow post h) refl
 
 -- ---- rows hold what a text may
 
--- values whose numbers are read back, and which nest at most this deep
-pub record AreSound (ds : Items) (most : ℕ) : Type 0 where
-  pub numbers : ItemsHaveNumbers (items_outline ds)
-  pub shallow : tree.items_depth (items_outline ds) ≤ most
-  pub back : of_items (items_outline ds) ≡ Some ds
-
-record IsSound (d : Data) (most : ℕ) : Type 0 where
-  numbers : HasNumbers (outline d)
-  shallow : tree.depth (outline d) ≤ most
-  back : of_json (outline d) ≡ Some d
-
-one_more : (d : Data) (ds : Items) (most : ℕ) → IsSound d most → AreSound ds most
-    → AreSound (item d ds) most
-one_more d ds most p q = record {
-  numbers = (p.numbers, q.numbers);
-  shallow = omega (arith, p.shallow, q.shallow);
-  back = rw (p.back, q.back) refl;
-}
-
-texts_sound : (texts : List (List ℕ)) → AreSound (items_of (map string texts)) 0
-texts_sound [] = record { numbers = tt; shallow = omega arith; back = refl }
-texts_sound (t ∷ ts) =
-    one_more (string t) (items_of (map string ts)) 0
-    (record { numbers = tt; shallow = omega arith; back = refl }) (texts_sound ts)
-
-label_sound : (label : Option (List (List ℕ))) → IsSound (label_value label) 1
-label_sound None = record { numbers = tt; shallow = omega arith; back = refl }
-label_sound (Some texts) =
-    let all = texts_sound texts in
-    record { numbers = all.numbers; shallow = omega (arith, all.shallow); back = rw all.back refl }
-
 wide : (n : ℕ) → FitsMember n → n < 2 ^ 64
 wide n h = omega (arith, h)
 
-cell_sound : (row : Row) (label : Option (List (List ℕ))) → row.time < 2 ^ 64 → FitsMember row.count
-    → IsSound (cell_value row label) 2
-cell_sound row texts late few =
-    let label = label_sound texts in
+cell_written : (row : Row) (label : Option (List (List ℕ))) → row.time < 2 ^ 64
+    → FitsMember row.count → IsWritten (cell_value row label) 2
+cell_written row texts late few =
+    let label = label_written texts in
     record {
       numbers = (
         tt,
@@ -120,9 +86,9 @@ cell_sound row texts late few =
           ) refl;
     }
 
-row_sound : (text : StepText) → HasRoom text → IsSound (step_value text) 3
+row_sound : (text : StepText) → HasRoom text → IsWritten (step_value text) 3
 row_sound (edit_step site row) h =
-    let cell = cell_sound row.0 row.1 h.1 h.2 in
+    let cell = cell_written row.0 row.1 h.1 h.2 in
     let n = wide site h.0 in
     record {
       numbers = (tt, (IsNumber-decimal site n, (cell.numbers, tt)));
@@ -192,7 +158,7 @@ row_sound (deliver_step post) h =
 
 -- the rows of steps are sound
 pub rows_sound : (texts : List StepText) (steps : List Step) → AreRowsOf texts steps
-    → AreSound (items_of (map step_value texts)) 3
+    → AreWritten (items_of (map step_value texts)) 3
 rows_sound [] [] rows = record { numbers = tt; shallow = omega arith; back = refl }
 rows_sound [] (s ∷ ss) rows = absurd rows
 rows_sound (t ∷ ts) [] rows = absurd rows

@@ -42,7 +42,7 @@ use Rattle.text_docs.specs.Part.{BeginsAt, BeginsBefore, EndsAfter, EndsAt}
 use Rattle.text_docs.specs.Rows.{AreRows, AreRowsAt, IsTail, opening}
 use Rattle.text_docs.proofs.RowBorderLemmas.{array_is, rows_step}
 use Rattle.text_docs.proofs.ListLemmas.{All-back, All-front, cut_twice}
-use Rattle.text_docs.proofs.PartLemmas.{map_back, map_front}
+use Rattle.cell_core.proofs.ChunkLemmas.{map_back, map_front}
 
 -- ---- the document as a whole
 
@@ -253,8 +253,8 @@ part_between id slice from to cells tail kept begins ends split =
                 (All-back IsKeptCell begins.before (m ++ ends.after)
                 (subst (λ (es : Entries). All IsKeptCell es) whole kept.each));
             map =
-                map_front m ends.after
-                (map_back begins.before (m ++ ends.after)
+                map_front key_cmp m ends.after
+                (map_back key_cmp begins.before (m ++ ends.after)
                 (subst (λ (es : Entries). IsMap key_cmp es) whole kept.map));
           };
           slice_is =

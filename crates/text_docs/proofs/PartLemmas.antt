@@ -3,7 +3,7 @@ use Rattle.std.proofs.Common.{◌≡◌, ◌∙◌, ◌+◌, ◌<◌, ◌≤◌,
 use Rattle.std.proofs.Common.{false, cond, ◌==◌, ◌⊎◌, inl, inr, ⊎_elim, refl, ap, sym, subst}
 use Rattle.std.proofs.Common.{arith, append_assoc, codes, decimal, drop, take, take-append-drop}
 use Rattle.std.proofs.Common.{append-nil, ap₂, drop_at, length, length-drop, drop-drop}
-use Rattle.std.proofs.Common.{true≢false, T, ◌/◌, ◌%◌}
+use Rattle.std.proofs.Common.{true≢false, ◌/◌, ◌%◌}
 use Rattle.std.specs.List.{All}
 use Rattle.std.specs.Ordering.{is_gt, is_lt, ordering_reverse, ordering_then}
 use Rattle.std.specs.declared.cmp.Ordering.{Ordering}
@@ -28,9 +28,9 @@ use Rattle.text_docs.specs.Part.{BeginsAt, BeginsBefore, EndsAfter, EndsAt}
 use Rattle.text_docs.specs.Row.{ReadsAsRow, is_unclosed, is_unclosed_from}
 use Rattle.text_docs.specs.Rows.{AreRows, AreRowsAt, IsTail, opening}
 use Rattle.lang_core.proofs.Basics.{less_of as less_is}
-use Rattle.cell_core.proofs.Basics.{is_greater as greater_is, both_parts, first_part, second_part}
-use Rattle.docs_core.proofs.JoinedRowsLemmas.{below_part as below_front}
-use Rattle.cell_core.proofs.Basics.{less_than}
+use Rattle.cell_core.proofs.Basics.{first_part, is_greater as greater_is}
+use Rattle.cell_core.proofs.ChunkLemmas.{map_back}
+use Rattle.docs_core.proofs.JoinedRowsLemmas.{all_after}
 use Rattle.text_docs.proofs.RowBorderLemmas.{IsBorder, IsCut, byte_44, byte_58, closed_row, comma}
 use Rattle.text_docs.proofs.RowBorderLemmas.{cut_rows, fit_rows, found_outside, kind_unfit}
 use Rattle.text_docs.proofs.RowBorderLemmas.{row_unfit}
@@ -324,32 +324,6 @@ greater_id a b id below greater =
     by Equal is h = subst (λ (t : List ℕ). text_cmp id t ≡ Less) (exact_bytes a.0 b.0 is) less
     by Greater is h = cc
 
--- the last entries of a map are one
-pub map_back : (xs ys : Entries) → IsMap key_cmp (xs ++ ys) → IsMap key_cmp ys
-map_back [] ys map = map
-map_back (x ∷ xs) ys map =
-    map_back xs ys
-    (second_part (below_all key_cmp x.0 (xs ++ ys)) (is_sorted key_cmp (xs ++ ys)) map)
-
--- and so are the first ones
-pub map_front : (xs ys : Entries) → IsMap key_cmp (xs ++ ys) → IsMap key_cmp xs
-map_front [] ys map = tt
-map_front (x ∷ xs) ys map =
-    both_parts (below_all key_cmp x.0 xs) (is_sorted key_cmp xs)
-    (below_front x.0 xs ys
-    (first_part (below_all key_cmp x.0 (xs ++ ys)) (is_sorted key_cmp (xs ++ ys)) map))
-    (map_front xs ys
-    (second_part (below_all key_cmp x.0 (xs ++ ys)) (is_sorted key_cmp (xs ++ ys)) map))
-
-all_above : (k : EntryKey) (es : Entries) → T (below_all key_cmp k es)
-    → All (λ (e : Entry). key_cmp k e.0 ≡ Less) es
-all_above k [] below = All-nil (λ (e : Entry). key_cmp k e.0 ≡ Less)
-all_above k (e ∷ es) below =
-    All-cons (λ (x : Entry). key_cmp k x.0 ≡ Less) e es
-    (less_than (key_cmp k e.0)
-    (first_part (is_lt (key_cmp k e.0)) (below_all key_cmp k es) below))
-    (all_above k es (second_part (is_lt (key_cmp k e.0)) (below_all key_cmp k es) below))
-
 -- a row of a lesser id: no row before it is of the message
 pub begins_at_row : (text written id : List ℕ) (cells : Entries) (tail : List ℕ) (place : ℕ)
     → AreRows text cells tail → (row : IsRowOf text written cells tail place)
@@ -373,7 +347,7 @@ pub ends_at_row : (text written id : List ℕ) (cells : Entries) (tail : List �
     → text_cmp row.entry.0.0 id ≡ Greater → EndsAt id (drop (place + 1) text) cells tail
 ends_at_row text written id cells tail place rows row greater =
     let map =
-    map_back row.before (row.entry ∷ row.after)
+    map_back key_cmp row.before (row.entry ∷ row.after)
     (subst (λ (es : Entries). IsMap key_cmp es) row.cells_are rows.kept.map) in record {
       before = row.before;
       after = row.entry ∷ row.after;
@@ -384,7 +358,7 @@ ends_at_row text written id cells tail place rows row greater =
           (All-weaker (λ (e : Entry). key_cmp row.entry.0 e.0 ≡ Less)
           (λ (e : Entry). text_cmp e.0.0 id ≡ Greater)
           (λ e above. greater_id row.entry.0 e.0 id above greater) row.after
-          (all_above row.entry.0 row.after
+          (all_after row.entry.0 row.after
           (first_part (below_all key_cmp row.entry.0 row.after) (is_sorted key_cmp row.after)
           map)));
     }

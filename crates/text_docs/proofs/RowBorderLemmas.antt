@@ -12,6 +12,7 @@ use Rattle.serde_json.specs.Data.{Data, array, string}
 use Rattle.serde_json.specs.View.{items_of}
 use Rattle.serde_json.specs.Written.{comma_if, compact_text}
 use Rattle.catalogue.specs.Entries.{Entries, Entry}
+use Rattle.lang_core.proofs.Basics.{true_not}
 use Rattle.catalogue.proofs.Basics.{first_so, second_so}
 use Rattle.row_docs.specs.Entries.{cells_values, entry_value, row_of}
 use Rattle.row_docs.specs.EntriesValid.{IsKeptCell}
@@ -86,8 +87,8 @@ after_id [] rest first goes fit =
 after_id (b ∷ bs) rest first goes fit =
     let more = bs ++ 34 ∷ 44 ∷ 34 ∷ first ∷ rest in
     let no_backslash : (b == 92) ≡ false =
-    not_so (b == 92) (first_so (not (b == 92)) (each fits (cond (b == 34) inside outside) more) fit)
-    in
+    true_not (b == 92)
+    (first_so (not (b == 92)) (each fits (cond (b == 34) inside outside) more) fit) in
     let no_quote : (b == 34) ≡ false = unclosed_so (b == 34) (is_unclosed_from (b == 92) bs) goes in
     after_id bs rest first
     (sym (ap (λ t. cond t false (is_unclosed_from (b == 92) bs)) no_quote
@@ -95,10 +96,6 @@ after_id (b ∷ bs) rest first goes fit =
     (sym (ap (λ t. each fits (cond t inside outside) more) no_quote)
     ∙ second_so (not (b == 92)) (each fits (cond (b == 34) inside outside) more) fit)
   where
-    not_so : (t : Bool) → not t ≡ true → t ≡ false
-    not_so true h = absurd (true≢false (sym h))
-    not_so false h = refl
-
     unclosed_so : (t u : Bool) → cond t false u ≡ true → t ≡ false
     unclosed_so true u h = absurd (true≢false (sym h))
     unclosed_so false u h = refl
@@ -170,6 +167,12 @@ pub array_is : (ds : List Data) (left : List ℕ)
 array_is ds left =
     sym (array_taken ds (91 ∷ (open_items false ds ++ 93 ∷ left)) (93 ∷ left) left refl refl)
 
+first_texts : (t : List ℕ) (texts : List (List ℕ))
+    → Piece outside closed (open_items false (map string (t ∷ texts)))
+first_texts t texts =
+    append outside closed closed (quoted t) (open_items true (map string texts)) (quoted_piece t)
+    (texts_piece texts)
+
 fit_label : (label : Option (List (List ℕ))) (left : List ℕ) → Fit outside left
     → Fit outside (closed_row label left)
 fit_label None left fit =
@@ -182,19 +185,7 @@ fit_label (Some (t ∷ texts)) left fit =
     (fit-append outside outside (91 ∷ [])
     (open_items false (map string (t ∷ texts)) ++ 93 ∷ 93 ∷ left) open_bracket
     (fit-append outside closed (open_items false (map string (t ∷ texts))) (93 ∷ 93 ∷ left)
-    (first_text t texts) fit))
-  where
-    first_text : (t : List ℕ) (texts : List (List ℕ))
-        → Piece outside closed (open_items false (map string (t ∷ texts)))
-    first_text t texts =
-        append outside closed closed (quoted t) (open_items true (map string texts))
-        (quoted_piece t) (texts_piece texts)
-
-first_texts : (t : List ℕ) (texts : List (List ℕ))
-    → Piece outside closed (open_items false (map string (t ∷ texts)))
-first_texts t texts =
-    append outside closed closed (quoted t) (open_items true (map string texts)) (quoted_piece t)
-    (texts_piece texts)
+    (first_texts t texts) fit))
 
 -- a `]` with a comma after it is that of the row
 at_end : (left tail : List ℕ) → IsCut outside (93 ∷ left) tail

@@ -28,10 +28,9 @@ pub(crate) fn first_revised<'a>(
     requires old { IsMap key_cmp old.now }
     requires new { IsMap key_cmp new.now }
     ensures first { MatchOption result ((old.now ≡ []) × (new.now ≡ []))
-        (λ r. IsFirstRevised r.0 old.now new.now r.1.now
-        r.2.now) }
-    ensures less { IfSome result (λ r. length r.1.now + length r.2.now < length old.now + length
-        new.now) }
+        (λ r. IsFirstRevised r.0 old.now new.now r.1.now r.2.now) }
+    ensures less { IfSome result
+        (λ r. length r.1.now + length r.2.now < length old.now + length new.now) }
 {
     match (old.split_first(), new.split_first()) {
         (None, None) => None,

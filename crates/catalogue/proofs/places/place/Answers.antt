@@ -1,7 +1,7 @@
 use Rattle.std.proofs.Common.{◌+◌, sym, ◌∙◌, ap, subst, arith}
 use Rattle.cell_core.specs.Iter.{entries_left}
 use Rattle.cell_core.specs.Entry.{EntryKey, text_cmp}
-use Rattle.catalogue.proofs.PlacesKeyLemmas.{place_of-le}
+use Rattle.cell_core.proofs.KeyedPlacesLemmas.{place_of-le}
 use Rattle.catalogue.proofs.PlacesNestedLemmas.{IsInFront, in_front_less, in_front_same}
 use Rattle.catalogue.proofs.PlacesNestedLemmas.{in_front_next}
 use Rattle.catalogue.proofs.PlacesNestedLemmas.{in_front_fits}

@@ -2,7 +2,7 @@ use Rattle.std.proofs.Common.{◌∷◌, map, take}
 use Rattle.json.specs.Token.{begin_array}
 use Rattle.serde_json.specs.Data.{string}
 use Rattle.row_docs.specs.WritingTexts.{Adds, row_tokens}
-use Rattle.row_docs.specs.WritingSeen.{texts_of}
+use Rattle.cell_core.specs.Label.{texts_of}
 use Rattle.row_docs.proofs.writing.write_texts.Given as goal
 
 abbrev pub invariant-loop-text : goal.invariant-loop-text

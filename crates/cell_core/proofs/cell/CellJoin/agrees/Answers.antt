@@ -1,6 +1,7 @@
 use Rattle.std.proofs.Common.{◌≡◌, sym, ◌∙◌}
 use Rattle.lang_core.proofs.Basics.{not_false as holds_from_not}
-use Rattle.cell_core.proofs.CellLemmas.{stamp_eq, stamp_decides, label_decides}
+use Rattle.cell_core.specs.StampEq.{stamp_eq}
+use Rattle.cell_core.proofs.CellLemmas.{stamp_decides, label_decides}
 use Rattle.cell_core.proofs.cell.CellJoin.agrees.Goals as goal
 
 pub returns-else-ne : goal.returns-else-ne
