@@ -1,4 +1,4 @@
--- What a call on documents writes, and which refusal it hands on.
+-- What a call on documents writes, and which refusal it passes on.
 use Rattle.std.proofs.Common.{◌≡◌, ◌≢◌, ◌∙◌, ℕ, List, ap, inl, inr, refl, subst, sym}
 use Rattle.std.specs.Prelude.{◌⊎◌}
 use Rattle.catalogue.specs.CataFault.{IsRefusal}

@@ -34,7 +34,7 @@ use Rattle.cell_core.proofs.Basics.{first_part, less_than, second_part}
 use Rattle.cell_core.proofs.ChunkLemmas.{map_back, map_front}
 use Rattle.cell_core.proofs.Basics.{tied_order as tied}
 
--- ---- of an entry behind all others
+-- ---- of an entry after all others
 
 -- a lesser key is another
 apart : (k l : EntryKey) → key_cmp k l ≡ Less → eq_by_cmp key_cmp k l ≡ false

@@ -137,7 +137,7 @@ split_extlangs t = record {
 
 -- ---- from part to part
 
--- a part is what stands at the front of the rest before it, and the rest after it what is left
+-- a part is what is at the front of the rest before it, and the rest after it what is left
 next_part : (test : List ℕ → Bool) (list left run rest : List (List ℕ))
     (before part after : IsLangtag list → List (List ℕ))
     → ((t : IsLangtag list) → IsSplit test (before t) (part t) (after t))

@@ -38,7 +38,7 @@ pub record HaveSameParts {list : List (List ℕ)} (a b : IsLangtag list) : Type 
   pub extensions : a.extensions ≡ b.extensions
   pub private : a.private ≡ b.private
 
--- ---- what is left of a tag behind its parts
+-- ---- what is left of a tag after its parts
 
 -- the subtags after the variants
 abbrev pub after_variants : {list : List (List ℕ)} → IsLangtag list → List (List ℕ)

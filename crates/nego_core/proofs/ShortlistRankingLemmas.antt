@@ -814,7 +814,7 @@ key_follows w items langs left ms keys at next ranked are o low later h = (
       (same_default keys at zero (get_or keys at zero) low) h.0 h.1.inside later) h.1,
 )
 
--- What is read at a place stands there.
+-- What is read at a place is there.
 pub read_at : (items : List Item) (place : ℕ) (i : Item) → true ≡ nat_lt place (length items)
     → i ≡ get_or items place i → Some i ≡ slice_get items place
 read_at items place i h e =

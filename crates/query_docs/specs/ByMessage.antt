@@ -26,7 +26,7 @@ cells_by (Some id) cells = cells_of id cells
 abbrev pub entries_in : {T : Type 0} → ByMessage T → Entries
 entries_in by = cells_by by.id by.cells.items
 
--- each text that stands alone is a label
+-- each single text is a label
 abbrev pub AreLabelRefs : List MessageCell → Type 0
 AreLabelRefs cells = All (λ c. IsLabelRef c.label) cells
 
@@ -51,8 +51,8 @@ pub record HasGiven {T : Type 0} (Holds : T → T → Entries → Type 0) (first
   pub begun : cells ≡ [] → given ≡ []
   pub holds : Holds first sink given
 
--- the same of what was seen, with the message that is read; each of its texts that stands alone is
--- a label
+-- the same of what was seen, with the message that is read; each of its single texts
+-- is a label
 pub record HasSeen {T : Type 0} (Holds : T → T → Entries → Type 0) (first : T) (by : ByMessage T)
     (seen : Entries) : Type 0 where
   pub given : HasGiven Holds first by.sink (entries_in by) seen

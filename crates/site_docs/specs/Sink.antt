@@ -16,7 +16,7 @@ texts_of (Text text) = Some (text.now ∷ [])
 texts_of (Held label) = Some label.now
 texts_of (Made label) = Some label
 
--- a text that stands alone is a label
+-- a single text is a label
 abbrev pub IsLabelRef : LabelRef → Type 0
 IsLabelRef Deleted = Unit {0}
 IsLabelRef (Text text) = IsLabel (text.now ∷ [])

@@ -40,7 +40,7 @@ pub struct RowText<'t> {
 pub enum LabelRef<'t> {
     /// There is none: the cell is a deletion.
     Deleted,
-    /// One text, as it stands in a document.
+    /// One text, as it is in a document.
     Text(&'t str),
     /// A label of a catalogue.
     Held(&'t Label),

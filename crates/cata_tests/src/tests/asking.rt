@@ -80,7 +80,7 @@ fn filters(rt: HostRuntime) -> Result<(), Fail> {
     Ok(())
 }
 
-/// The language and weight at a place of what a list takes of a message, as it is lent.
+/// The language and weight at a place of what a list takes of a message, as it is borrowed.
 fn lent_at(alloc: Global, field: &str, place: usize) -> Result<String, Fail> {
     let held = catalogue(alloc, GREETINGS)?;
     let list = list(alloc, Scheme::Basic, field)?;

@@ -1,4 +1,4 @@
-//! Catalogues: what wins, where a key stands, and which clash is told.
+//! Catalogues: what wins, at which place a key is, and which clash is reported.
 
 use super::makers::{catalogue, cell, edit, id, lang};
 use super::shown;
@@ -8,19 +8,19 @@ use cell_core::Cell;
 use std::alloc::Global;
 use std::test::Fail;
 
-/// What stands in a catalogue after these edits.
+/// What a catalogue holds after these edits.
 fn applied(alloc: Global, edits: &str) -> Result<String, Fail> {
     Ok(shown::cells(alloc, &catalogue(alloc, edits)?)?)
 }
 
-/// How one more edit ends, and what then stands there.
+/// How one more edit ends, and what the catalogue then holds.
 fn applying(alloc: Global, held: &str, coming: &str) -> Result<String, Fail> {
     let mut own = catalogue(alloc, held)?;
     let coming = edit(alloc, coming)?;
     shown_end(alloc, own.apply(alloc, &coming), &own)
 }
 
-/// How a merge ends, and what then stands in the first.
+/// How a merge ends, and what the first then holds.
 fn merging(alloc: Global, own: &str, other: &str) -> Result<String, Fail> {
     let mut own = catalogue(alloc, own)?;
     let other = catalogue(alloc, other)?;
@@ -118,7 +118,7 @@ fn cells_by_message_and_language(rt: HostRuntime) -> Result<(), Fail> {
     Ok(())
 }
 
-/// What a catalogue holds after a cell is put behind all others.
+/// What a catalogue holds after a cell is put after all others.
 fn pushed(alloc: Global) -> Result<String, Fail> {
     let cell = cell(alloc, &mut Words::new("5 1 0 a"))?;
     let (id, lang) = (id(alloc, "m")?, lang(alloc, "en")?);
@@ -148,8 +148,8 @@ fn asked(alloc: Global, kind: &str, one: &str, other: &str) -> Result<String, Fa
     }
 }
 
-/// A case, what is asked, of which texts, and what it gives: how it ends, and what then stands
-/// there, or what changed.
+/// A case, what is asked, of which texts, and what it gives: how it ends, and what is then
+/// held, or what changed.
 const ROWS: &[(&str, &str, &str, &str, &str)] = &[
     (
         "a later deletion stays",

@@ -87,7 +87,7 @@ pub fn reply(alloc: Global, reply: &Reply) -> Result<String, AllocError> {
     }
 }
 
-/// All answers, one behind the other.
+/// All answers, one after the other.
 pub fn answers(alloc: Global, answers: &Answers) -> Result<String, AllocError> {
     let mut list = String::new(alloc);
     for place in 0..answers.len() {

@@ -7,14 +7,14 @@ use cata_core::{Site, sync};
 use std::alloc::{AllocError, Global};
 use std::test::Fail;
 
-/// What stands at the two.
+/// What the two hold.
 fn both(alloc: Global, first: &Site, second: &Site) -> Result<String, AllocError> {
     let own = shown::cells(alloc, first.catalogue())?;
     let other = shown::cells(alloc, second.catalogue())?;
     format!(in alloc; "{own} | {other}")
 }
 
-/// How a sync ends, and what then stands at the two.
+/// How a sync ends, and what the two then hold.
 fn synced(alloc: Global, first: &mut Site, second: &mut Site) -> Result<String, AllocError> {
     let outcome = shown::outcome(alloc, &sync(alloc, first, second))?;
     let both = both(alloc, first, second)?;

@@ -300,7 +300,7 @@ fn agrees(order: Ordering, label: &LabelRef<'_>, other: &LabelRef<'_>) -> bool
     }
 }
 
-/// Whether two labels are known to be the same, without making one. One text that stands in a
+/// Whether two labels are known to be the same, without making one. One text that is in a
 /// document is compared with such a text alone.
 fn is_same(label: &LabelRef<'_>, other: &LabelRef<'_>) -> bool
     ensures { IsTrue result → texts_of label.now ≡ texts_of other.now }

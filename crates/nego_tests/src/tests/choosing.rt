@@ -1,4 +1,4 @@
-//! What `choose` lends, over a slice of languages and over an empty set.
+//! What `choose` gives to borrow, over a slice of languages and over an empty set.
 use crate::tests::held::Empty;
 use crate::tests::reading::{accept, lang, langs, ranges};
 use lang_core::Lang;

@@ -43,7 +43,7 @@ fn filtered_of_lent(
     shown(rt, &filter_lent(rt.alloc(), list, scheme, &lent)?)
 }
 
-/// What a list picks among languages, handed in or lent.
+/// What a list picks among languages that it is given, or that it borrows.
 fn picked_of_both(
     rt: &(impl Abort + AllocGlobal),
     list: &PriorityList,

@@ -1,4 +1,4 @@
-//! Lookup (RFC 4647 section 3.4) over languages that are handed in, and by `choose` over a set.
+//! Lookup (RFC 4647 section 3.4) over a list of languages, and by `choose` over a set.
 use crate::tests::reading::{columns, default_of, langs, list_of};
 use crate::tests::shortlists::agrees_cut;
 use lang_core::Lang;

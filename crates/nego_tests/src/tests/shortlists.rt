@@ -46,7 +46,7 @@ pub fn agrees_cut(
     Ok(())
 }
 
-/// A field of many ranges of English, whose first candidate is in no site, and German behind them.
+/// A field of many ranges of English, whose first candidate is in no site, and German after them.
 fn many_ranges(rt: &(impl Abort + AllocGlobal)) -> Result<String, Fail> {
     let mut field = String::new(rt.alloc());
     for number in 0..2000 {

@@ -47,7 +47,7 @@ pub(crate) struct Front<'t> {
 /// The text of an id.
 #[derive(Drop)]
 pub(crate) enum IdText<'t> {
-    /// As it stands in the document.
+    /// As it is in the document.
     Plain(&'t str),
     /// Of an id with escapes, without them.
     Unescaped(String),
