@@ -53,7 +53,7 @@ pub append_nil : {X : Type 0} (xs : List X) → xs ++ [] ≡ xs
 append_nil [] = refl
 append_nil (x ∷ xs) = ap (λ ys. x ∷ ys) (append_nil xs)
 
--- A place in the first of two lists that are appended is one in that list.
+-- At a place of the first list two appended lists have what the first has.
 pub slice_get-front : {X : Type 0} (xs ys : List X) (n : ℕ) → n < length xs
     → slice_get (xs ++ ys) n ≡ slice_get xs n
 slice_get-front [] ys n lt = absurd (omega (arith, lt))

@@ -22,7 +22,7 @@ use Rattle.list_core.specs.declared.scheme.Scheme.TheVariants.{Basic, Extended}
 
 -- ---- the bytes of a range
 
--- The range of an item is an extended range.
+-- The subtags of a range of either scheme are an extended range.
 pub range_is_extended : (scheme : Scheme) (text : List ℕ) → IsRange (RangeGrammar scheme) text
     → ExtendedRange (pieces text)
 range_is_extended Basic text h = basic_extended (pieces text) h.1

@@ -45,7 +45,7 @@ IsThere langs default (Matched text) = IsTrue (is_among langs text.now)
 IsThere langs default Default = IsSomeAnd default (λ lang. IsTrue (is_among langs lang))
 IsThere langs default Nothing = Unit {0}
 
--- lookup without a default
+-- what lookup (RFC 4647 section 3.4), or widened lookup (project rule), finds without a default
 abbrev pub IsLookedUpBy : Widening → List Item → List (List ℕ) → Option (List (List ℕ)) → Type 0
 IsLookedUpBy Off items langs = IsLookedUp items (is_among langs)
 IsLookedUpBy (By scheme) items langs = IsLookedUpWidened scheme items langs

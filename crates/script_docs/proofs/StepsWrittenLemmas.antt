@@ -156,7 +156,7 @@ row_sound (deliver_step post) h =
 
 -- ---- rows of steps
 
--- the rows of steps are sound
+-- the rows of steps hold what a text may
 pub rows_sound : (texts : List StepText) (steps : List Step) → AreRowsOf texts steps
     → AreWritten (items_of (map step_value texts)) 3
 rows_sound [] [] rows = record { numbers = tt; shallow = omega arith; back = refl }
