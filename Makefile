@@ -1,19 +1,17 @@
 # `make try` gives an answer from the sources, `make` builds the proved command, `make library` the
 # library for C, `make demo` shows the command, `make test` is the whole gate, `make help` lists all.
-# Needed, on x86-64 Linux: make, bash, tar, awk and the usual GNU tools (coreutils, findutils, grep,
-# sed, diffutils); the Rattle kit, whose command `rt` is on the PATH or named by RT=; and python3 3.8
-# or later, since rt is written in it and the kit has none. For the library a C compiler and binutils;
-# for `make test` these and valgrind; for `make bench` also cargo, valgrind and GNU time; for
-# `make dist` git and dpkg-deb too.
+# Needed, on x86-64 Linux: the Rattle kit, whose command `rt` is on the PATH or named by RT=; python3
+# 3.8 or later, since rt is written in it and the kit has none; make, bash and coreutils. What else is
+# wanted is in packaging/needs.txt, and `make needs` installs it where Debian's packages are.
 SHELL := bash
 RT ?= rt
 PREFIX ?= /usr/local
 # (the tests and the examples are no part of the command)
-SOURCES := crates.txt $(shell find crates \
+SOURCES := crates.txt $(shell command -v find > /dev/null && find crates \
 	\( -name out -o -name '*_tests' -o -name 'example_*' \) -prune \
 	-o -type f \( -name '*.rt' -o -name '*.antt' \) -print)
 
-.PHONY: all help try try-session library browser demo test test-edits plant test-alone check-docs \
+.PHONY: all help needs try try-session library browser demo test test-mutants plant \
 	bench bench-documents bench-front install install-command install-library uninstall dist proofs \
 	clean
 
@@ -23,14 +21,19 @@ SOURCES := crates.txt $(shell find crates \
 help:
 	@sed -n 's/^#: //p' Makefile
 
-#: make try           one answer from the sources, in a minute or two; nothing is proved.
-#:                    WORDS="pick 'da, en' en fr" gives other arguments
+#: make needs         installs the Debian packages that are wanted and not there, as root or by sudo;
+#:                    elsewhere it prints them. KIND=build leaves out those of tests and measurements
+needs:
+	@tools/needs $(KIND)
+
+#: make try           one answer from the sources, in a minute or two; nothing is proved. The program
+#:                    is left in build/try/lexicat. WORDS="pick 'da, en' en fr" gives other arguments
 try:
-	@RT='$(RT)' scripts/try $(WORDS)
+	@RT='$(RT)' tools/try $(WORDS)
 
 #: make try-session   README's session from the sources, in some two minutes; nothing is proved
 try-session:
-	@RT='$(RT)' scripts/try-session
+	@RT='$(RT)' tools/try-session
 
 #: make               proves the crates and builds build/lexicat: 32 to 44 minutes the first time
 #:                    on four processors, seconds where nothing changed; HINTS=FILE proves all side by
@@ -39,7 +42,7 @@ all: build/lexicat
 
 # Each crate is proved, and only then built. What was proved before is not proved again.
 build/lexicat: $(SOURCES)
-	RT='$(RT)' scripts/build$(if $(HINTS), --hints '$(HINTS)')
+	RT='$(RT)' tools/build$(if $(HINTS), --hints '$(HINTS)')
 
 #: make demo          builds the command, and shows an answer, a story of three newsrooms, and that
 #:                    answer again
@@ -52,39 +55,35 @@ demo: build/lexicat
 #:                    two more than the command
 library: build/lib/libsilkwaram.a
 
-build/lib/libsilkwaram.a: $(SOURCES) $(wildcard include/*) scripts/library
-	RT='$(RT)' scripts/library
+build/lib/libsilkwaram.a: $(SOURCES) $(wildcard include/*) tools/library
+	RT='$(RT)' tools/library
 
 #: make browser       the package for Node and pages, as WebAssembly, in build/browser
 #:                    (docs/BROWSER.md): a minute or two more than the library
 browser: build/browser/silkwaram.wasm
 
-build/browser/silkwaram.wasm: $(SOURCES) $(wildcard include/*) scripts/browser \
-		$(wildcard bindings/browser/* bindings/node/express.*)
-	RT='$(RT)' scripts/browser
+build/browser/silkwaram.wasm: $(SOURCES) $(wildcard include/*) tools/browser \
+		$(wildcard bindings/browser/*.* bindings/node/express.*)
+	RT='$(RT)' tools/browser
 
 #: make test          the whole gate, from nothing: 35 to 90 minutes on four processors, by how many
-#:                    edits scripts/edits.record lacks; twice that on two
-# The program that the compiler has to refuse; every proof, from nothing where this machine has not
-# passed the same crate before, the tests and the programs; the edits that the prover has to refuse,
-# one of each public function and many in one check; then what the docs show. The last line counts
-# them all.
+#:                    mutants tools/mutants/verdicts lacks; twice that on two. What lacks a tool is
+#:                    skipped, and counted. STRICT=1 fails where anything was
+# Every proof, from nothing where this machine has not passed the same crate before, the tests and the
+# programs of the crates; the mutants that the prover has to refuse, one of each public function and
+# many in one check; then every test by `prove`. The last line counts them all.
 test:
-	RT='$(RT)' scripts/gate
+	RT='$(RT)' tools/gate $(if $(STRICT),--strict)
 
-#: make test-edits    tries every edit that the prover has to refuse, those too of which the record has
-#:                    the verdict, over what `make` kept: half an hour
-test-edits: build/lexicat
-	RT='$(RT)' scripts/edits
+#: make test-mutants  tries every mutant that the prover has to refuse, those too of which the record
+#:                    has the verdict, over what `make` kept: half an hour
+test-mutants: build/lexicat
+	RT='$(RT)' tools/mutants/try
 
 #: make plant         has the kit plant wrong bodies of its own making, and lists those that contracts
 #:                    let through: some hours
 plant: build/lexicat
-	RT='$(RT)' scripts/plant
-
-#: make test-alone    the same by `rt ci` alone, with each edit tried alone: some hours
-test-alone:
-	RT='$(RT)' scripts/gate --alone
+	RT='$(RT)' tools/mutants/plant
 
 #: make bench         instructions, time and memory beside plain Rust; bench-documents and bench-front
 #:                    are parts of it, of large documents and of the library
@@ -142,13 +141,13 @@ install-command: build/lexicat
 	install -d "$(MODULES)"
 	install -m 644 companions/lexicat_convert/*.py "$(MODULES)"
 
-# (the links are made by `scripts/library`, and lead to each other by their names alone)
+# (the links are made by `tools/library`, and lead to each other by their names alone)
 install-library: library
 	install -d "$(LIB)/pkgconfig" "$(INCLUDE)"
 	install -m 644 include/silkwaram.h include/silkwaram_command.h "$(INCLUDE)"
 	install -m 644 build/lib/libsilkwaram.a build/lib/libsilkwaram-command.a "$(LIB)"
 	cp -P build/lib/libsilkwaram.so* "$(LIB)"
-	scripts/pkg-config-file '$(PREFIX)' '$(LIBDIR)' > "$(LIB)/pkgconfig/silkwaram.pc"
+	tools/pkg-config-file '$(PREFIX)' '$(LIBDIR)' > "$(LIB)/pkgconfig/silkwaram.pc"
 	chmod 644 "$(LIB)"/libsilkwaram.so.*.*.* "$(LIB)/pkgconfig/silkwaram.pc"
 
 #: make uninstall     takes away what `make install` put in place, by the same PREFIX, LIBDIR, DESTDIR
@@ -173,17 +172,12 @@ uninstall:
 #:                    of the libraries are packed too, for `make HINTS=FILE`.
 #:                    MAINTAINER='NAME <ADDRESS>' names the distributor, SIGN_KEY=FILE signs checksums
 dist:
-	RT='$(RT)' scripts/dist
-
-#: make check-docs    what the docs name and show: names and links, and the examples run with the
-#:                    command, in some minutes
-check-docs: build/lexicat
-	for script in $(filter-out scripts/borrow-check,$(wildcard scripts/*-check)); do $$script || exit 1; done
+	RT='$(RT)' tools/dist
 
 #: make proofs        the map of what is proved, build/PROOFS.md, from the sources in a second: each
 #:                    function and law with its sentence, clauses and definitions (docs/maintaining/PROOFS.md)
 proofs:
-	scripts/proofs
+	tools/proofs
 
 #: make clean         removes what was built, and what was kept of proofs
 clean:

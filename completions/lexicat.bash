@@ -1,5 +1,5 @@
 # Completion of lexicat for bash: source this file, or install it into bash-completion's folder.
-# Written by scripts/completions from the help of the command.
+# Written by tools/completions from the help of the command.
 
 _lexicat() {
     local word=${COMP_WORDS[COMP_CWORD]} before=${COMP_WORDS[COMP_CWORD-1]} command='' i

@@ -1,5 +1,5 @@
 # Completion of lexicat for fish: install it into fish's folder of completions.
-# Written by scripts/completions from the help of the command.
+# Written by tools/completions from the help of the command.
 
 complete -c lexicat -f
 set -l commands pick new put delete status import update export missing outdated changes filter lookup bundle summary delta take sync merge replay explain

@@ -40,7 +40,7 @@ async function serve(t, handler) {
 // (http.request, since fetch sends an Accept-Language of its own)
 async function get(port, header) {
   const headers = header === undefined ? {} : { 'Accept-Language': header };
-  const signal = AbortSignal.timeout(10_000);
+  const signal = AbortSignal.timeout(300_000);
   const request = http.get({ host: '127.0.0.1', port, headers, agent: false, signal });
   const [response] = await once(request, 'response');
   const parts = await response.toArray();

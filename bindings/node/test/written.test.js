@@ -79,11 +79,15 @@ test('bytes are read where they lie, but copied where other threads can change t
   assert.equal(ofThere.text('greeting', 'en'), 'Hello');
 });
 
-// How long it takes to do this a hundred times, in milliseconds.
+// How long it takes to do this a hundred times, in milliseconds: the shortest of some times, as a machine
+// that does other things meanwhile takes longer.
 function timeOf(work) {
-  const before = performance.now();
-  for (let at = 0; at < 100; at++) work(at);
-  return performance.now() - before;
+  const times = Array.from({ length: 7 }, () => {
+    const before = performance.now();
+    for (let at = 0; at < 100; at++) work(at);
+    return performance.now() - before;
+  });
+  return Math.min(...times);
 }
 
 test('a large document is not copied by a question', () => {

@@ -58,7 +58,7 @@ def side_by_side(*works):
     for it in threads:
         it.start()
     for it in threads:
-        it.join(60)
+        it.join(600)
     if any(it.is_alive() for it in threads):
         faults.append(AssertionError("a thread does not end"))
     if faults:
@@ -69,7 +69,7 @@ def run_python(program, *words, **environ):
     """Runs a program in a process of its own."""
     words = [sys.executable, "-X", "dev", "-c", program, *words]
     given = {**os.environ, **environ}
-    return subprocess.run(words, env=given, capture_output=True, text=True, timeout=60)
+    return subprocess.run(words, env=given, capture_output=True, text=True, timeout=600)
 
 
 class Case(unittest.TestCase):

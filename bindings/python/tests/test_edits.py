@@ -334,7 +334,7 @@ class Files(FileCase):
             for wait in (0.05, float("nan")):
                 with self.assertRaises(TimeoutError), edit(self.path, wait=wait):
                     pass
-        with edit(self.path, wait=0.05):
+        with edit(self.path, wait=300):
             pass
 
     def test_a_lock_for_all_who_may_write_the_site(self):
@@ -374,7 +374,7 @@ class Files(FileCase):
             fcntl.flock(lock, fcntl.LOCK_EX)
             removed = threading.Timer(0.2, lambda: (os.unlink(self.path), lock.close()))
             removed.start()
-            with self.assertRaises(FileNotFoundError) as raised, edit(self.path, wait=20):
+            with self.assertRaises(FileNotFoundError) as raised, edit(self.path, wait=300):
                 pass
             removed.join()
         self.assertEqual(raised.exception.filename, os.path.realpath(self.path))

@@ -250,7 +250,7 @@ class Slow:
         is_first = not self.begun.is_set()
         self.begun.set()
         if is_first:
-            self.end.wait(60)
+            self.end.wait(300)
         return self.library.sw_site_open(*words)
 
 
@@ -387,12 +387,12 @@ class Handles(Case):
                 target=site.reload, args=[document(("greeting", "en", ["Good day"]))]
             )
             reading.start()
-            self.assertTrue(begun.wait(60))
+            self.assertTrue(begun.wait(300))
             asking = threading.Thread(
                 target=lambda: answers.append((site.text("greeting", "en"), end.is_set()))
             )
             asking.start()
-            asking.join(5)
+            asking.join(120)
             end.set()
             asking.join()
             reading.join()
@@ -408,7 +408,7 @@ class Handles(Case):
                 for text in ("first", "second")
             ]
             first.start()
-            self.assertTrue(begun.wait(60))
+            self.assertTrue(begun.wait(300))
             second.start()
             second.join(0.2)
             end.set()

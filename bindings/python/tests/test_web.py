@@ -1,9 +1,10 @@
-"""The middleware for WSGI and ASGI, asked without a server. scripts/web-check asks over HTTP.
+"""The middleware for WSGI and ASGI, asked without a server. web.t asks over HTTP.
 
     SILKWARAM_LIBRARY=build/lib/libsilkwaram.so PYTHONPATH=bindings/python/src \
         python3 -m unittest discover -s bindings/python/tests
 """
 import asyncio
+import contextlib
 import os
 import sys
 import threading
@@ -473,14 +474,24 @@ class OfASGI(unittest.TestCase):
             ask_asgi(ASGILanguageMiddleware(app, **OF_TAGS))
 
 
-def waits_for(is_so, seconds=20):
-    """Whether it is so within these seconds."""
-    until = time.monotonic() + seconds
+def waits_for(is_so):
+    """Whether it comes to be so. (The limit is the end of a hang alone.)"""
+    until = time.monotonic() + 300
     while not is_so():
         if time.monotonic() > until:
             return False
         time.sleep(0.01)
     return True
+
+
+@contextlib.contextmanager
+def clock():
+    """A clock of its own for the file of a site, whose reading everybody waits for."""
+    now = mock.Mock(monotonic=lambda: now.seconds, seconds=0.0)
+    now.go_on = lambda seconds: setattr(now, "seconds", now.seconds + seconds)
+    with mock.patch.object(_site_file, "time", now):
+        with mock.patch.object(_site_file, "LONGEST_WAIT", 300):
+            yield now
 
 
 class Files(FileCase):
@@ -543,10 +554,11 @@ class Files(FileCase):
             with self.assertLogs("silkwaram", "WARNING") as logged:
                 make()
                 self.assertTrue(waits_for(lambda: self.text(file) == "old" and logged.records))
-                until = time.monotonic() + 0.3
-                while time.monotonic() < until:
-                    self.assertEqual(self.text(file), "old")
-                    time.sleep(0.01)
+                with mock.patch.object(file, "_read", wraps=file._read) as reads:
+                    texts = []
+                    is_read = lambda: texts.append(self.text(file)) or reads.call_count > 5
+                    self.assertTrue(waits_for(is_read))
+                self.assertEqual(set(texts), {"old"})
             self.assertEqual(len(logged.records), 1, logged.output)
             self.assertIn(self.path, logged.output[0])
         self.replace(document("new"))
@@ -564,43 +576,48 @@ class Files(FileCase):
                 self.becomes(file, "new")
 
     def test_the_first_to_ask_has_the_new_state(self):
-        with mock.patch.object(_site_file, "LONGEST_WAIT", 20):
+        with mock.patch.object(_site_file, "LONGEST_WAIT", 300):
             file = SiteFile(self.path)
             for state in range(5):
                 self.replace(document(f"state {state}"))
-                time.sleep(0.1)
+                self.assertTrue(waits_for(lambda: time.monotonic() >= file._next_look))
                 self.assertEqual(self.text(file), f"state {state}")
 
     def test_nobody_waits_for_the_reading(self):
         file, goes_on = SiteFile(self.path), threading.Event()
         self.addCleanup(goes_on.set)
-        opens = mock.Mock(side_effect=lambda it: goes_on.wait(20) and Site.open(it))
+        opens = mock.Mock(side_effect=lambda it: goes_on.wait(120) and Site.open(it))
         with mock.patch.object(_site_file, "Site", mock.Mock(open=opens)):
             self.replace(document("new"))
             self.assertTrue(waits_for(lambda: self.text(file) and opens.called))
-            began = time.monotonic()
+            # (who waited for it would wait until the text is another)
             self.assertEqual([self.text(file) for _ in range(100)], ["old"] * 100)
-            self.assertLess(time.monotonic() - began, 5)
             self.assertEqual(opens.call_count, 1)
+            self.assertTrue(file._lock.locked())
             goes_on.set()
             self.becomes(file, "new")
 
     def test_it_is_looked_at_once_in_a_while(self):
-        with mock.patch.object(_site_file, "LOOK_EVERY", 0.3):
+        with clock() as now, mock.patch.object(_site_file, "LOOK_EVERY", 0.3):
             file = SiteFile(self.path)
             with mock.patch.object(file, "_read", wraps=file._read) as reads:
-                until = time.monotonic() + 1
-                while time.monotonic() < until:
-                    self.text(file)
-                self.assertIn(reads.call_count, (1, 2, 3))
+                self.ask_for_a_second(file, now)
+                self.assertEqual(reads.call_count, 3)
 
     def test_a_file_that_takes_long_is_looked_at_less_often(self):
-        file = SiteFile(self.path)
-        with mock.patch.object(file, "_read", side_effect=lambda: time.sleep(0.2)) as reads:
-            until = time.monotonic() + 1.5
-            while time.monotonic() < until:
-                self.text(file)
-            self.assertEqual(reads.call_count, 1)
+        with clock() as now:
+            file = SiteFile(self.path)
+            with mock.patch.object(file, "_read", side_effect=lambda: now.go_on(0.2)) as reads:
+                self.ask_for_a_second(file, now)
+                self.assertEqual(reads.call_count, 1)
+                self.ask_for_a_second(file, now)
+                self.ask_for_a_second(file, now)
+                self.assertEqual(reads.call_count, 2)
+
+    def ask_for_a_second(self, file, now):
+        for _ in range(100):
+            now.go_on(0.01)
+            self.text(file)
 
     def test_where_no_thread_can_be_had(self):
         file = SiteFile(self.path)

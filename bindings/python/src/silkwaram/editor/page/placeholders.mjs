@@ -1,6 +1,7 @@
 // Placeholders of programs in texts, and how those of a translation differ from its source's. The
-// companion lexicat-check has the same rules, and scripts/labels-check compares the two: whoever
-// changes one changes the other. (What repeats is bounded, so that no text takes long.)
+// companion lexicat-check has the same rules, and companions/tests/check/placeholders.t compares
+// the two: whoever changes one changes the other. (What repeats is bounded, so that no text takes
+// long.)
 
 // %d, %-5.1f, %1$s, %*d, %(name)s, %<name>s, %<PRIu64>, %{name}
 const NUMBER = '(?:\\d{1,3}|\\*(?:\\d{1,2}\\$)?)?';

@@ -1,0 +1,16 @@
+#!/usr/bin/env python3
+"""Tries, by browsers and the editor's server, that no edit is lost or undone, whatever its id, its
+clock and its network are. editor.py says what it takes and needs."""
+import sys
+
+sys.dont_write_bytecode = True
+import editor  # noqa: E402
+from editor_promises import (  # noqa: E402
+    any_id,
+    in_parallel,
+    no_edit_lost,
+    no_edit_undone,
+    wrong_clocks,
+)
+
+editor.in_test(any_id, no_edit_lost, no_edit_undone, wrong_clocks, in_parallel)

@@ -1,0 +1,20 @@
+#!/usr/bin/env bash
+# Asks documents where they lie, and mutated ones. They are made at random, by SEED. Each answer has
+# to be that of the site that the document opens, and no byte outside of a document is read. Takes
+# build/lib. Needed: a C compiler; and valgrind, under which some are asked once more.
+#
+# LIBRARY_TEXT_QUESTIONS says how many questions each of 500 documents is asked (200), and
+# LIBRARY_MUTATED how many mutated ones are asked (20000; before a release 1000000).
+cd "$(dirname "$0")/../.." || exit 1
+. tests/lib/tap.sh
+. tests/library/library.sh
+needs "$PWD/build/lib/libsilkwaram.a" "$cc"
+
+says_seed
+is_built text
+check 'documents where they lie' "$room/text" ask "$SEED" 500 "${LIBRARY_TEXT_QUESTIONS:-200}"
+check 'mutated documents where they lie' \
+    "$room/text" mutate $((SEED + 1)) "${LIBRARY_MUTATED:-20000}"
+under_valgrind 'documents where they lie, under valgrind' text ask $((SEED + 2)) 20 20
+under_valgrind 'mutated documents under valgrind' text mutate $((SEED + 3)) 400
+end

@@ -1,0 +1,258 @@
+#!/usr/bin/env python3
+"""Sees that the completions are those that tools/completions makes of the help, that each command
+and each option of the help is on the manual's page, and that the manual has each refusal; and the
+same of the options of lexicat's companions, and of the commands that lexicat-file takes. Bash, zsh,
+fish and mandoc look at their own files too, and the shells complete some lines. Reads the help of
+build/lexicat, or of the command that LEXICAT names, and that of companions/. Needed: bash; zsh,
+fish and mandoc, each for its own files.
+
+The arguments of each command are compared with the completions of bash, zsh and fish, and with the
+synopses of man/lexicat.1 and docs/COMMAND.md: the names of the options in their order, which of
+them have to be given, which take a value and its name, the words that the value may be, and the
+names of the other arguments, which of them come once and which repeat.
+"""
+import glob
+import os
+import re
+import shutil
+import subprocess
+import sys
+
+HERE = os.path.dirname(os.path.realpath(__file__))
+sys.dont_write_bytecode = True
+sys.path[:0] = [HERE, f"{HERE}/../lib", f"{HERE}/../../tools"]
+import command_help  # noqa: E402
+import completions_in_shells  # noqa: E402
+import tap  # noqa: E402
+
+ROOT = command_help.ROOT
+COMPANIONS = ["lexicat-file", "lexicat-edit", "lexicat-po", "lexicat-convert",
+              "lexicat-exchange", "lexicat-check"]
+# What lexicat-file has beside the commands, and the commands that have to do with no site.
+OF_A_FILE, OF_NO_SITE = {"merge", "confirm", "undo"}, {"pick", "replay", "explain"}
+faults = []
+fault = faults.append
+
+
+def read(path):
+    with open(os.path.join(ROOT, path), encoding="utf-8") as file:
+        return file.read()
+
+
+def said_by(*words):
+    """Runs a program over the files of the repository; what it says where it is not content."""
+    how = {"stdout": subprocess.PIPE, "stderr": subprocess.STDOUT, "stdin": subprocess.DEVNULL}
+    ran = subprocess.run(words, cwd=ROOT, text=True, check=False, **how)
+    return [] if ran.returncode == 0 else [f"{words[0]}: {ran.stdout}"]
+
+
+def forms_in_manual():
+    """Returns the options and the arguments that the synopsis of the manual has of each command."""
+    forms = {}
+    synopsis = re.search(r"^\.Sh SYNOPSIS\n(.*?)^\.Sh", read("man/lexicat.1"), re.M | re.S)[1]
+    for part in re.split(r"^\.Nm\n", synopsis, flags=re.M):
+        options, arguments, commands = [], [], []
+        for line in part.splitlines():
+            option = re.match(r"\.(Op )?Fl -([\w-]+)(?: Ar (\w+))?$", line)
+            if line.startswith(".Cm "):
+                commands = line[len(".Cm "):].split(" | ")
+            elif option:
+                options.append((option[2], (option[3] or "").upper() or None, not option[1]))
+            elif line.startswith(".Ar "):
+                name, *rest = line[len(".Ar "):].split()
+                arguments.append((name.upper(), rest == ["..."]))
+        forms.update(dict.fromkeys(commands, (options, arguments)))
+    return forms
+
+
+def forms_in_reference():
+    """Returns the same of the synopsis of docs/COMMAND.md."""
+    forms = {}
+    for line in re.findall(r"^lexicat ([a-z]+(?: .*)?)$", read("docs/COMMAND.md"), re.M):
+        command, _, rest = line.partition(" ")
+        options, arguments = [], []
+        for given in re.findall(r"\[--[\w-]+[^]]*\]|--[\w-]+ \S+|\S+", rest):
+            option = re.match(r"(\[)?--([\w-]+)(?: ([^\s\]]+))?", given)
+            if option:
+                options.append((option[2], option[3], not option[1]))
+            elif not given.startswith("["):
+                arguments.append((given.removesuffix(".."), given.endswith("..")))
+        forms.setdefault(command, (options, arguments))
+    return forms
+
+
+def forms_in_zsh():
+    """Returns the same of the completion of zsh, with the words of an option's value."""
+    forms = {}
+    for commands, given in re.findall(
+        r"^        ([a-z |]+)\) _arguments \$help ?(.*) ;;$", read("completions/_lexicat"), re.M
+    ):
+        options, arguments = [], []
+        for word in re.findall(r"'(?:[^']|'\\'')*'", given):
+            option = re.match(
+                r"'--([\w-]+)(=?)\[(?:\\.|[^]\\])*\](?::\w+:)?(?:\(([^)]*)\))?'$", word)
+            other = re.match(r"'([1*]):(\w+):(\{true\}|\(.*\))'$", word)
+            if option:
+                options.append((option[1], option[2] == "=", (option[3] or "").split()))
+            elif other:
+                arguments.append((other[2].upper(), other[1] == "*"))
+        forms.update(dict.fromkeys(commands.split(" | "), (options, arguments)))
+    return forms
+
+
+def options_in_fish():
+    """Returns the same of the options of fish."""
+    options = {}
+    for commands, rest in re.findall(
+        r"^complete -c lexicat -n '__fish_seen_subcommand_from ([a-z ]*)' (.*)$",
+        read("completions/lexicat.fish"), re.M,
+    ):
+        name = re.search(r"-l ([\w-]+)", rest)
+        words = re.search(r"-a '([^']*)'", rest)
+        for command in commands.split() if name else ():
+            options.setdefault(command, []).append(
+                (name[1], rest.startswith("-x "), words[1].split() if words else []))
+    return options
+
+
+def bash_offers(*words):
+    """Returns what the completion of bash offers after these words."""
+    script = (
+        '. completions/lexicat.bash; compopt() { :; }; COMP_WORDS=(lexicat "$@" ""); '
+        'COMP_CWORD=$((${#COMP_WORDS[@]} - 1)); _lexicat; printf "%s\\n" "${COMPREPLY[@]}"')
+    words = ["bash", "-c", script, "bash", *words]
+    return set(subprocess.check_output(words, cwd=ROOT, text=True).split())
+
+
+def check_arguments(forms):
+    """Compares what the help has of each command with what else names its arguments."""
+
+    def compare(what, said, shown):
+        if said != shown:
+            fault(f"{what} has {said}, and its help {shown}")
+
+    manual, reference, zsh, fish = \
+        forms_in_manual(), forms_in_reference(), forms_in_zsh(), options_in_fish()
+    for command, (_, options, others) in forms.items():
+        arguments = [(it.name, it.repeats) for it in others]
+        taking = [(it.name, bool(it.value), it.words) for it in options]
+        named = [(it.name, it.value, it.is_required) for it in options]
+        spelled = [(it.name, "|".join(it.words) or it.value, it.is_required) for it in options]
+        for what, said, wanted in [
+            ("man", manual, named), ("docs/COMMAND.md", reference, spelled), ("zsh", zsh, taking),
+        ]:
+            compare(f"{what}: {command}", said.get(command), (wanted, arguments))
+        compare(f"fish: {command}", sorted(fish.get(command, [])), sorted(taking))
+        offered = bash_offers(command)
+        words = {word for it in others for word in it.words} | {f"--{it.name}" for it in options}
+        compare(f"bash: {command}", offered, words | {"--help", "-h"})
+        for it in options:
+            # (after a flag the options are offered again)
+            compare(f"bash: {command} --{it.name}", bash_offers(command, f"--{it.name}"),
+                    set(it.words) if it.value else offered)
+
+
+def check_command(lexicat, forms):
+    """Checks what is said of the command as a whole, and each command and option in the manual."""
+    if not forms:
+        fault("the help names no command")
+    if bash_offers() != {*forms, *command_help.options_in(command_help.help_of(lexicat))}:
+        fault("bash: not the commands and options of the help")
+    faults.extend(said_by("tools/completions", "--check", lexicat))
+    manual = read("man/lexicat.1")
+    for command, form in forms.items():
+        if f"\n.It Cm {command}\n" not in manual:
+            fault(f"man: no {command}")
+        for it in form.options:
+            if not re.search(rf"^\.It Fl -{it.name}( |$)", manual, re.M):
+                fault(f"man: no --{it.name}")
+    for text in re.findall(r"^\| [0-9]* \| `([^`]*)`", read("docs/REFUSALS.md"), re.M):
+        if text not in manual:
+            fault(f"man: no refusal '{text}'")
+
+
+def check_companion(companion):
+    """Checks that its completions and its manual have each option of its help, with a value where
+    it has one, and that of bash no other."""
+    text = command_help.help_of(f"{ROOT}/companions/{companion}")
+    options = {it for it in command_help.options_in(text) if it.startswith("--")}
+    with_value = set(re.findall(r"^ +(?:-\w, )?(--[a-z-]+) [A-Z]", text, re.M))
+    bash = re.findall(r"compgen -W '(--[^']*)'", read(f"completions/{companion}.bash"))
+    if set(re.findall("--[a-z-]+", " ".join(bash))) != options:
+        fault(f"bash: not the options of {companion}")
+    for option in options - {"--help"}:
+        sign, fish, mdoc = ("=", "-[xF] ", " Ar ") if option in with_value else ("", "", "$")
+        for what, path, pattern in [
+            ("zsh", f"completions/_{companion}", rf"{option}{sign}\["),
+            ("fish", f"completions/{companion}.fish", rf"{fish}-l {option[2:]} "),
+            ("man", f"man/{companion}.1", rf"^\.It Fl {option[1:]}{mdoc}"),
+        ]:
+            if not re.search(pattern, read(path), re.M):
+                fault(f"{what}: no {option} for {companion}")
+
+
+def check_commands_of_a_file(forms):
+    """Checks that each command that has to do with a site is one of lexicat-file."""
+    wanted = sorted({*forms, *OF_A_FILE} - OF_NO_SITE)
+    text = command_help.help_of(f"{ROOT}/companions/lexicat-file")
+    bash = re.search("^    local commands='(.*)'", read("completions/lexicat-file.bash"), re.M)
+    for what, names in [
+        ("help of lexicat-file", command_help.commands_in(text)),
+        ("bash", bash[1].split() if bash else []),
+        ("zsh", re.findall("^        '([a-z]*):", read("completions/_lexicat-file"), re.M)),
+        ("fish", re.findall(" -eq 1. -a ([a-z]*) ", read("completions/lexicat-file.fish"))),
+    ]:
+        if sorted(names) != wanted:
+            fault(f"{what}: not the commands of lexicat-file")
+    for command in wanted:
+        line = rf"^\.It Cm ([a-z]+ , )*{command}( ,| Ar| Op| Fl|$)"
+        if not re.search(line, read("man/lexicat-file.1"), re.M):
+            fault(f"man: no {command} in that of lexicat-file")
+
+
+def compared(name, look, *words):
+    """Reports what a look finds wrong."""
+    faults.clear()
+    look(*words)
+    tap.report(name, faults)
+
+
+def check_syntax(shell, pattern):
+    """Has a shell look at its own files."""
+    for name in ["lexicat", *COMPANIONS]:
+        faults.extend(said_by(shell, "-n", f"completions/{pattern.format(name)}"))
+
+
+def check_by_programs():
+    """Has each shell look at its own files and complete lines, and mandoc look at the manual."""
+    for shell, pattern in ("bash", "{}.bash"), ("zsh", "_{}"), ("fish", "{}.fish"):
+        syntax, lines = f"the syntax of the files of {shell}", f"lines completed in {shell}"
+        if shutil.which(shell):
+            compared(syntax, check_syntax, shell, pattern)
+            tap.check(lines, completions_in_shells.faults_of, shell)
+        else:
+            tap.lacks(syntax, shell)
+            tap.lacks(lines, shell)
+    lint = "the manual as mandoc reads it"
+    if shutil.which("mandoc"):
+        pages = sorted(glob.glob("man/*.[15]", root_dir=ROOT))
+        tap.report(lint, said_by("mandoc", "-T", "lint", "-W", "warning", *pages))
+    else:
+        tap.lacks(lint, "mandoc")
+
+
+def main():
+    lexicat = os.path.abspath(os.environ.get("LEXICAT", command_help.LEXICAT))
+    tap.needs(lexicat, "bash")
+    forms = command_help.forms_of(lexicat)
+    compared("commands and options", check_command, lexicat, forms)
+    compared("the arguments of each command", check_arguments, forms)
+    for companion in COMPANIONS:
+        compared(f"the options of {companion}", check_companion, companion)
+    compared("the commands of lexicat-file", check_commands_of_a_file, forms)
+    check_by_programs()
+    tap.end()
+
+
+if __name__ == "__main__":
+    main()

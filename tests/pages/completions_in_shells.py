@@ -1,0 +1,176 @@
+"""Completes lines in a real shell: bash, zsh or fish. In place of lexicat and of its companions
+runs a script, which writes its arguments and its input into a file. A line is typed, then a tab and
+the end of the line, and the file shows what was completed.
+"""
+import os
+import pty
+import re
+import select
+import shutil
+import tempfile
+import time
+
+ROOT = os.path.dirname(os.path.dirname(os.path.dirname(os.path.abspath(__file__))))
+
+# What is typed before the tab, and what lexicat then gets, as a pattern: its arguments and input.
+LINES = [
+    ("lexicat sta", "args:status input:"),
+    ("lexicat pick --sch", "args:pick --scheme=? input:"),
+    ("lexicat lookup --d", "args:lookup --default=? input:"),
+    ("lexicat pick --scheme e", "args:pick --scheme extended input:"),
+    ("lexicat pick --scheme=b", "args:pick --scheme=basic input:"),
+    ("lexicat status < zz", "args:status input:held"),
+    ("lexicat status <zz", "args:status input:held"),
+    ("lexicat export > zz", "args:export input:"),
+    ("lexicat-file zz", "args:zz_file.json input:"),
+    ("lexicat-file --wa", "args:--wait=? input:"),
+    ("lexicat-file --wait 5 zz", "args:--wait 5 zz_file.json input:"),
+    ("lexicat-file zz_file.json stat", "args:zz_file.json status input:"),
+    ("lexicat-file --wait=5 zz_file.json upd", "args:--wait=5 zz_file.json update input:"),
+    ("lexicat-file zz_file.json lookup --d", "args:zz_file.json lookup --default=? input:"),
+    ("lexicat-file zz_file.json lookup --scheme e",
+     "args:zz_file.json lookup --scheme extended input:"),
+    ("lexicat-file --wait 5 zz_file.json put --la",
+     "args:--wait 5 zz_file.json put --lang=? input:"),
+    ("lexicat-file zz_file.json sync zz", "args:zz_file.json sync zz_file.json input:"),
+    ("lexicat-file zz_file.json mer", "args:zz_file.json merge input:"),
+    ("lexicat-file zz_file.json merge zz", "args:zz_file.json merge zz_file.json input:"),
+    ("lexicat-file zz_file.json import zz", "args:zz_file.json import zz_file.json input:"),
+    ("lexicat-file zz_file.json import --n", "args:zz_file.json import --now=? input:"),
+    ("lexicat-file zz_file.json undo zz", "args:zz_file.json undo zz_file.json input:"),
+    ("lexicat-file zz_file.json take --no-l", "args:zz_file.json take --no-limit input:"),
+    ("lexicat-file zz_file.json delete --fo", "args:zz_file.json delete --force input:"),
+    ("lexicat-file zz_file.json confirm --la", "args:zz_file.json confirm --lang=? input:"),
+    ("lexicat-file zz_file.json take < zz", "args:zz_file.json take input:held"),
+    ("lexicat-edit zz", "args:zz_file.json input:"),
+    ("lexicat-edit --mis", "args:--missing=? input:"),
+    ("lexicat-edit --missing fr zz", "args:--missing fr zz_file.json input:"),
+    ("lexicat-edit zz_file.json zz", "args:zz_file.json zz input:"),
+    ("lexicat-po conf", "args:confirmed input:"),
+    ("lexicat-po in --lang de --so", "args:in --lang de --source=? input:"),
+    ("lexicat-po in --sent zz", "args:in --sent zz_file.json input:"),
+    ("lexicat-po in --lang de --source en zz", "args:in --lang de --source en zz_file.json input:"),
+    ("lexicat-po out --plu", "args:out --plural-forms=? input:"),
+    ("lexicat-po out --like zz", "args:out --like zz_file.json input:"),
+    ("lexicat-po out --lang de zz", "args:out --lang de zz_file.json input:"),
+    ("lexicat-po maps --dom", "args:maps --domain=? input:"),
+    ("lexicat-po maps --source en zz", "args:maps --source en zz_file.json input:"),
+    ("lexicat-po out --lang de < zz", "args:out --lang de input:held"),
+    ("lexicat-convert stringsd", "args:stringsdict input:"),
+    ("lexicat-convert csv ou", "args:csv out input:"),
+    ("lexicat-convert i18next in --fl", "args:i18next in --flat input:"),
+    ("lexicat-convert arb in zz", "args:arb in zz_file.json input:"),
+    ("lexicat-convert xliff out --so", "args:xliff out --source=? input:"),
+    ("lexicat-convert arb out --lang de < zz", "args:arb out --lang de input:held"),
+    ("lexicat-exchange --wa", "args:--wait=? input:"),
+    ("lexicat-exchange --key-file zz", "args:--key-file zz_file.json input:"),
+    ("lexicat-exchange http://localhost:8080/ zz", "args:http://localhost:8080/ zz_file.json input:"),
+    ("lexicat-check --so", "args:--source=? input:"),
+    ("lexicat-check --source en --only bl", "args:--source en --only blanks input:"),
+    ("lexicat-check --source en zz", "args:--source en zz_file.json input:"),
+]
+
+# What completes, in an order in which each finds what it needs later.
+NAMES = [
+    "lexicat-check", "lexicat-convert", "lexicat-edit", "lexicat-exchange", "lexicat-file",
+    "lexicat-po", "lexicat"]
+
+SETUP = {
+    "bash": (
+        ["bash", "--norc", "--noprofile", "-i"],
+        ["PS1=; bind 'set enable-bracketed-paste off'",
+         *(f". {ROOT}/completions/{name}.bash" for name in NAMES)],
+    ),
+    "zsh": (
+        ["zsh", "-f", "-i"],
+        ["unset zle_bracketed_paste; PS1=; setopt no_prompt_sp clobber",
+         f"fpath=({ROOT}/completions $fpath); autoload -Uz compinit; compinit -u -D"],
+    ),
+    "fish": (
+        ["fish", "--no-config", "-i"],
+        ["function fish_prompt; end",
+         *(f"source {ROOT}/completions/{name}.fish" for name in NAMES)],
+    ),
+}
+
+
+# (the end of a shell that hangs)
+MOST_SECONDS = 300
+LEXICAT = """#!/bin/sh
+if [ -t 0 ]; then held=; else held=$(cat); fi
+echo "args:$* input:$held" >> "$SAID"
+"""
+
+
+def drain(terminal, seconds):
+    """Reads what the shell prints, until it is silent for a while."""
+    printed = b""
+    while select.select([terminal], [], [], seconds)[0]:
+        try:
+            printed += os.read(terminal, 65536)
+        except OSError:
+            break
+        if b"\x1b[c" in printed[-64:] or b"\x1b[0c" in printed[-64:]:
+            os.write(terminal, b"\x1b[?6c")  # a terminal that is asked what it is
+    return printed
+
+
+def wait(terminal, typed, is_there):
+    """Reads what the shell prints, until what was typed comes to something."""
+    end, printed = time.monotonic() + MOST_SECONDS, b""
+    while not is_there():
+        printed += drain(terminal, 0.05)
+        if time.monotonic() > end:
+            raise TimeoutError(f"{typed!r} comes to nothing; the shell prints {printed!r}")
+
+
+def said_by(shell):
+    """What lexicat got at each line."""
+    room = tempfile.mkdtemp()
+    said = os.path.join(room, "said")
+    os.mkdir(os.path.join(room, "bin"))
+    for name in NAMES:
+        path = os.path.join(room, "bin", name)
+        with open(path, "w", encoding="utf-8") as file:
+            file.write(LEXICAT)
+        os.chmod(path, 0o755)
+    command, setup = SETUP[shell]
+    process, terminal = pty.fork()
+    if process == 0:
+        os.chdir(room)
+        os.environ.update(HOME=room, TERM="dumb", LC_ALL="C.UTF-8", SAID=said)
+        os.environ.update(ZDOTDIR=room, XDG_CONFIG_HOME=room)
+        os.environ["PATH"] = os.path.join(room, "bin") + ":" + os.environ["PATH"]
+        os.execvp(command[0], command)
+    try:
+        done = os.path.join(room, "done")
+        for line in setup:
+            os.write(terminal, f"{line}; touch {done}\n".encode())
+            wait(terminal, line, lambda: os.path.exists(done))
+            os.remove(done)
+        got = []
+        for typed, _ in LINES:
+            with open(os.path.join(room, "zz_file.json"), "w", encoding="utf-8") as file:
+                file.write("held")
+            open(said, "w", encoding="utf-8").close()
+            os.write(terminal, typed.encode() + b"\t\n")
+            wait(terminal, typed, lambda: os.path.getsize(said) > 0)
+            with open(said, encoding="utf-8") as file:
+                got.append(re.sub(r"\s+", " ", file.read()).strip())
+            os.write(terminal, b"\x15")
+            if typed.endswith("> zz"):
+                files = sorted(name for name in os.listdir(room) if name.startswith("zz"))
+                if files != ["zz_file.json"]:
+                    got[-1] = f"wrote {' '.join(files)}"
+        return got
+    finally:
+        os.close(terminal)
+        os.kill(process, 9)
+        os.waitpid(process, 0)
+        shutil.rmtree(room, ignore_errors=True)
+
+
+def faults_of(shell):
+    """What a shell completes otherwise than it has to."""
+    return [f"{typed!r} and a tab: {got!r}, wanted {wanted!r}"
+            for (typed, wanted), got in zip(LINES, said_by(shell)) if not re.fullmatch(wanted, got)]
