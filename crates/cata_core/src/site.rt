@@ -80,9 +80,7 @@ impl Site {
     pub(crate) fn latest(&self) -> Latest
         ensures { IsKnownLatest result self.now.cells }
     {
-        // By a pattern, so that an edit finds a line of its own.
-        let Site { latest, .. } = self;
-        *latest
+        self.latest
     }
 
     /// Its catalogue.

@@ -92,9 +92,7 @@ impl Catalogue {
         ensures len { result ≡ length self.now }
         ensures sorted { IsMap key_cmp self.now }
     {
-        // By a pattern, so that an edit finds a line of its own.
-        let Catalogue { len, .. } = self;
-        *len
+        self.len
     }
 
     /// Whether there is no cell.

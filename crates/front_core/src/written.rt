@@ -47,9 +47,7 @@ impl Filter {
         ensures { (site : SiteState) → IsWritten text.now site
             → MatchResult result (AnswersFilter site.cells self.now) IsNoMemory }
     {
-        // By a pattern, so that an edit finds a line of its own.
-        let Filter { id, .. } = self;
-        let part = message_in(alloc, text, id)?;
+        let part = message_in(alloc, text, &self.id)?;
         self.answer(alloc, SiteIn::Open(&part))
     }
 }

@@ -54,9 +54,7 @@ impl Doc {
     pub fn into_bytes(self) -> Vec<u8>
         ensures { result.items ≡ self }
     {
-        // By a pattern, so that an edit finds a line of its own.
-        let Doc { bytes } = self;
-        bytes
+        self.bytes
     }
 }
 

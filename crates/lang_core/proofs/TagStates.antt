@@ -1,4 +1,4 @@
--- The states of the table that reads tags, which scripts/tag-table prints: of each stage a list, in
+-- The states of the table that reads tags, which tools/tag-table prints: of each stage a list, in
 -- it of each length of the subtag that is read, from none to eight, six states: of no byte yet, of
 -- "x", of letters, of digits, of both from a letter on, of both from a digit on.
 use Rattle.std.specs.Prelude.{ℕ, List, [], ◌∷◌}

@@ -20,7 +20,7 @@ static CLASSES: [u8; 256] = [
 const CLASS_COUNT: usize = 5;
 
 /// The state after a byte of each class, of each state in turn. In a state lies what was read last
-/// and what is known of the subtag that is read; `scripts/tag-table` prints the table.
+/// and what is known of the subtag that is read; `tools/tag-table` prints the table.
 #[rattlefmt::skip]
 static NEXT: [u8; 370] = [
     0, 0, 0, 0, 0, 3, 2, 0, 0, 0, 37, 37, 0, 36, 0, 37, 37, 0, 0, 0,

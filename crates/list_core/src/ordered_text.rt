@@ -44,9 +44,7 @@ impl<'a> OrderedText<'a> {
     pub fn text(&self) -> &'a str
         ensures { result.now ≡ self.now }
     {
-        // By a pattern, so that an edit finds a line of its own.
-        let OrderedText { text, .. } = self;
-        text
+        self.text
     }
 }
 

@@ -1,5 +1,5 @@
-//! A row of each kind of question, over streams in memory. All rows are in scripts/command_check,
-//! and are asked of the program by scripts/command-check.
+//! A row of each kind of question, over streams in memory. All rows are in tests/command/rows,
+//! and are asked of the program by tests/command/rows.t.
 use super::harness::all_end;
 use std::test::Fail;
 
