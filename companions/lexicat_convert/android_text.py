@@ -4,7 +4,7 @@ as it reads. A text that reads like XML and is none, as `&lt;b&gt;`, is there in
 import re
 
 from lexicat_convert import xml_text
-from lexicat_convert.common import Misfit, Refused
+from lexicat_convert.common import Misfit, Refused, quoted
 from lexicat_convert.xml_text import Cdata, Comment, Element
 
 # The blanks that Android takes together, which are all of Unicode but those that bind.
@@ -38,7 +38,7 @@ class Reader:
                 self.hard(written(chr(int(code, 16))))
             elif letter:
                 if letter not in ESCAPES:
-                    raise Misfit(f"it has \\{letter}, which is no escape")
+                    raise Misfit(f"it has \\{quoted(letter)[1:-1]}, which is no escape")
                 self.hard(written(ESCAPES[letter]))
             elif quote:
                 self.is_quoted = not self.is_quoted

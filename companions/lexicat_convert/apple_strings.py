@@ -3,7 +3,8 @@ after it on its line, is its note."""
 import re
 
 from lexicat_convert.common import (NOTES, Misfit, Refused, comment_lines, counted, decoded,
-                                    joined_comment, note_of, stated_language, the_text)
+                                    joined_comment, note_of, quoted, stated_language,
+                                    the_text)
 from lexicat_convert.stringsdict import VARIABLE
 
 KEEPS = (NOTES,)
@@ -37,7 +38,8 @@ def unescaped(text, name, line):
         if found[1]:
             return chr(int(found[1], 16))
         if found[2] not in ESCAPES:
-            raise Refused(f"{name}: line {line}: \\{found[2]} is no escape that is read here")
+            escape = f"\\{quoted(found[2])[1:-1]}"
+            raise Refused(f"{name}: line {line}: {escape} is no escape that is read here")
         return ESCAPES[found[2]]
     text = ESCAPE.sub(character, text)
     return re.sub("[\ud800-\udbff][\udc00-\udfff]", lambda pair: pair[0].encode(
