@@ -170,8 +170,10 @@ export interface WrittenSite extends Asked {}
 
 export interface WrittenSiteClass {
   /**
-   * A document just as `write`, `toBytes` or `lexicat` wrote it. Refused: what is none (18 to 20). Most of it is not
-   * looked at, and what another one answers or is refused by is not said: each call may read it whole.
+   * A document as `write`, `toBytes` or `lexicat` wrote it, or as another program wrote it again: with its members and
+   * rows in their order, without blanks, and with any escapes in the strings of its rows. Most of it is not looked at.
+   * Of other bytes nothing is promised but an answer: a label may be missing, without a refusal. Refused, here or by a
+   * question: what does not read as a document (18 to 20).
    */
   new (document: Text): WrittenSite;
 }

@@ -246,7 +246,7 @@ abstract class SilkwaramQuestions
     }
 }
 
-/** The document of a site, just as it was written, which is asked as it lies there: nothing is opened. */
+/** The document of a site, as it was written or as `json_encode` writes it again, which is asked as it lies there. */
 final class SilkwaramWritten extends SilkwaramQuestions
 {
     private string $document;
@@ -255,7 +255,7 @@ final class SilkwaramWritten extends SilkwaramQuestions
     {
         $this->calls = SilkwaramCalls::of($library);
         $this->document = $document;
-        // (what is no document is refused at once)
+        // (what does not read as a document is refused here, or by a question)
         $this->filter('m', '*');
     }
 

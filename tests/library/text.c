@@ -4,6 +4,7 @@
  *                                         those of the site that its document opens, with its last LF and without
  *        text mutate SEED COUNT           so many mutated documents: each question ends in an answer, the same wherever
  *                                         the bytes lie; that of the site, where they are still what is written for one
+ *        text expect FILE                 documents and questions of a file, which has the answers (rewritten.py)
  *
  * A document lies before a page that nothing may touch, or just behind one, so a byte that is read outside of it ends
  * this program. */
@@ -176,9 +177,62 @@ static void mutate_all(unsigned long count) {
   sw_site_free(&made.site);
 }
 
+static int reports(void) {
+  printf("text: %lu questions, answers: %lu found, %lu nothing, %lu usage, %lu refused; %lu wrong\n", questions,
+         answered[SW_FOUND], answered[SW_NOTHING], answered[SW_USAGE], answered[SW_REFUSED], faults);
+  return faults != 0;
+}
+
+/* The next text of a file: its length in four bytes, the least one first, and its bytes. */
+static text taken(text *left) {
+  if (left->len < 4) exit(3);
+  size_t len = 0;
+  for (int at = 3; at >= 0; at--) len = len << 8 | left->bytes[at];
+  if (left->len - 4 < len) exit(3);
+  text it = {left->bytes + 4, len};
+  *left = (text){left->bytes + 4 + len, left->len - 4 - len};
+  return it;
+}
+
+/* Asks a document the next question of a file, after its call and the status that is wanted. */
+static void expect_taken(text head, text *left, text document) {
+  const char *call = memchr("ltf", head.bytes[0], 3);
+  if (!call || head.len != 2) exit(3);
+  asked.call = (enum call)(LOOKUP + (call - "ltf"));
+  asked.id = taken(left);
+  asked.field = taken(left);
+  text wanted = taken(left);
+  source of = {NULL, document};
+  answer got = ask(&of);
+  questions++;
+  if (got.status != head.bytes[1] - '0' || got.told.len != wanted.len || memcmp(got.out, BYTES(wanted)))
+    wrong("another answer than its labels have", &got);
+  free(got.out);
+}
+
+/* Asks what a file has: a document, then questions to it, then the next one. */
+static void expect_all(text left) {
+  text document = NO_TEXT;
+  while (left.len) {
+    text head = taken(&left);
+    if (head.len == 1) {
+      alarm(SECONDS);
+      document = at_the_end(arenas[0], taken(&left));
+      turn++;
+    } else {
+      expect_taken(head, &left, document);
+    }
+  }
+}
+
 int main(int count, char **words) {
-  if (count < 4) return 2;
+  if (count < 3) return 2;
   for (int at = 0; at < 2; at++) arenas[at] = new_arena();
+  if (!strcmp(words[1], "expect")) {
+    expect_all(file(words[2]));
+    return reports();
+  }
+  if (count < 4) return 2;
   seed = strtoul(words[2], NULL, 10);
   unsigned long many = strtoul(words[3], NULL, 10);
   if (!strcmp(words[1], "ask") && count == 5)
@@ -187,7 +241,5 @@ int main(int count, char **words) {
     mutate_all(many);
   else
     return 2;
-  printf("text: %lu questions, answers: %lu found, %lu nothing, %lu usage, %lu refused; %lu wrong\n", questions,
-         answered[SW_FOUND], answered[SW_NOTHING], answered[SW_USAGE], answered[SW_REFUSED], faults);
-  return faults != 0;
+  return reports();
 }

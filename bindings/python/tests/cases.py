@@ -26,6 +26,18 @@ def written(*cells):
     return json.dumps(site_of(*cells), ensure_ascii=False, separators=(",", ":")).encode() + b"\n"
 
 
+def rewritten(*cells):
+    """The same as PHP's `json_encode`, Python's `json.dumps` and Go's `encoding/json` write it
+    without blanks: each has escapes of its own."""
+    ascii = json.dumps(site_of(*cells), separators=(",", ":"))
+    yield "PHP", ascii.replace("/", "\\/").encode()
+    yield "Python", ascii.encode()
+    by_go = json.dumps(site_of(*cells), ensure_ascii=False, separators=(",", ":"))
+    for letter in "<>&\u2028\u2029":
+        by_go = by_go.replace(letter, f"\\u{ord(letter):04x}")
+    yield "Go", by_go.encode()
+
+
 # (a text that could be taken for the border of two rows, and an id)
 ROW = '],["größe","ja",5,"paris",4,["サイズ"]]'
 CELLS = (

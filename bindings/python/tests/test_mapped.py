@@ -12,7 +12,7 @@ import threading
 import unittest
 
 import test_silkwaram
-from cases import WRITTEN, FileCase, greeting, run_python, side_by_side, written
+from cases import WRITTEN, FileCase, greeting, rewritten, run_python, side_by_side, written
 from silkwaram import MappedSite, Refused, mapped
 from silkwaram.web import LABEL
 from test_web import WAYS, values
@@ -50,6 +50,28 @@ class Questions(Files, test_silkwaram.Questions):
         for path in (5, None, [self.path]):
             with self.assertRaisesRegex(TypeError, "^path must be str, bytes or os.PathLike, not "):
                 mapped(path)
+
+
+class Rewritten(Files):
+    """Sites that other programs wrote without blanks."""
+
+    IDS = ["Abbrechen", "Schließen", "Größe & mehr", "a/b", "<b>", "日本", "😀", 'quote "],["']
+    IDS += ["back\\slash", "u00df", "\u2028", "zuletzt"]
+    LANGUAGES = ("de", "en", "fr")
+
+    def test_each_label_is_found(self):
+        ids = sorted(self.IDS, key=str.encode)
+        cells = [(id, lang, [f"{lang} {id}"]) for id in ids for lang in self.LANGUAGES]
+        for program, content in rewritten(*cells):
+            for site in self.ways(content):
+                for id, lang, texts in cells:
+                    with self.subTest(program=program, id=id, lang=lang):
+                        self.assertEqual(site.texts(id, f"{lang}, *;q=0"), texts)
+                for id in ids:
+                    found = [(it.language, it.texts) for it in site.filter(id, "*")]
+                    self.assertEqual(found, [(it, [f"{it} {id}"]) for it in self.LANGUAGES])
+                for id in ("Schlieu00dfen", "Gr", "b", "ß", "zuletzt!"):
+                    self.assertIsNone(site.lookup(id, "*"))
 
 
 class Begins(Files):

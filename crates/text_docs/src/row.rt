@@ -77,7 +77,9 @@ fn begins_language(first: u8) -> bool
     first.is_ascii_alphanumeric() || first == b'@'
 }
 
-/// The place of the first quote that ends a string: one after no backslash.
+/// The place of the first quote that ends a string: one after no backslash. There is none where an
+/// escape other than `\"` and `\\` comes before it: with one an id is not ordered as its bytes are
+/// written.
 fn quote_in(text: &[u8]) -> Option<usize>
     ensures { IfSome result (λ end. (end ≤ length text.now)
         × (is_unclosed (take end text.now) ≡ true)) }
@@ -86,6 +88,9 @@ fn quote_in(text: &[u8]) -> Option<usize>
     for place in 0..text.len() {
         let byte = text[place];
         if escaped {
+            if byte != b'"' && byte != b'\\' {
+                return None;
+            }
             escaped = false;
         } else if byte == b'"' {
             return Some(place);
