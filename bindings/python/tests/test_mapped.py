@@ -12,7 +12,8 @@ import threading
 import unittest
 
 import test_silkwaram
-from cases import WRITTEN, FileCase, greeting, rewritten, run_python, side_by_side, written
+from cases import CELLS, WRITTEN, FileCase, document, greeting, rewritten, run_python
+from cases import side_by_side, written
 from silkwaram import MappedSite, Refused, mapped
 from silkwaram.web import LABEL
 from test_web import WAYS, values
@@ -95,6 +96,68 @@ class Begins(Files):
                     fault = self.refuses(number, mapped, self.path, is_copied)
                     if number == 20:
                         self.assertEqual(fault.wanted, "a site document is wanted")
+
+
+class Checked(Files):
+    """What `check` asks of each file."""
+
+    # (Go writes these cells as Silkwaram does)
+    OTHERS = [document(*CELLS), *(it for by, it in rewritten(*CELLS) if by != "Go")]
+    OTHERS += [WRITTEN + b"\n", b" " + WRITTEN]
+    # (a row that is none, which questions about other messages do not read)
+    SPOILED = WRITTEN.replace(b'"ja",5,"paris",4', b'"ja" is no row')
+
+    def ways(self, content=WRITTEN):
+        for is_copied in (False, True):
+            self.replace(content)
+            with mapped(self.path, copy=is_copied, check=True) as site:
+                yield site
+
+    def asks(self, site):
+        calls = site.lookup, site.text, site.filter
+        return [lambda call=call: call("greeting", "en") for call in calls]
+
+    def is_other(self, ask):
+        with self.assertRaises(ValueError) as it:
+            ask()
+        self.assertNotIsInstance(it.exception, Refused)
+        said = f"{self.path} is a site, but not as Silkwaram writes it"
+        self.assertEqual(str(it.exception), said)
+
+    def test_what_silkwaram_writes(self):
+        for content in (WRITTEN, WRITTEN[:-1], written()):
+            for site in self.ways(content):
+                self.says(site, "Hello" if content != written() else None)
+
+    def test_another_form_and_no_site(self):
+        for is_copied in (False, True):
+            for content in self.OTHERS:
+                self.replace(content)
+                self.is_other(lambda: mapped(self.path, copy=is_copied, check=True))
+            for content, number in (self.SPOILED, 19), (b"", 19), (b"{}\n", 20), (WRITTEN[:-9], 19):
+                self.replace(content)
+                self.refuses(number, mapped, self.path, copy=is_copied, check=True)
+
+    def test_a_file_that_is_replaced(self):
+        for site in self.ways():
+            before = site.share()
+            for content in self.OTHERS:
+                self.replace(content)
+                for ask in self.asks(site) * 2:
+                    self.is_other(ask)
+            self.replace(self.SPOILED)
+            for ask in self.asks(site) + self.asks(site.share()):
+                self.refuses(19, ask)
+            self.says(before, "Hello")
+            self.replace(greeting("new"))
+            self.says(site, "new")
+            os.unlink(self.path)
+            self.says(site, "new")
+
+    def test_without_it_a_file_is_not_read(self):
+        self.replace(self.SPOILED)
+        with mapped(self.path) as site:
+            self.says(site, "Hello")
 
 
 class Replaced(Files):

@@ -3,12 +3,14 @@ import ctypes
 import mmap
 import os
 import threading
-from typing import Any, Optional
+from copy import copy as copied
+from typing import Any, Optional, Union
 
 from ._arguments import wrong_type
 from ._library import Answer, Told, answered, library
 from ._questions import Calls, Questions
-from ._refusals import checked
+from ._refusals import Refused, checked
+from ._site import Site
 from ._site_file import Path, state_of
 
 
@@ -41,7 +43,7 @@ _given_back = ctypes.PYFUNCTYPE(None, ctypes.POINTER(_Buffer))(
 class _File:
     """The bytes of a file as it was when it was opened, for as long as anything refers to this."""
 
-    def __init__(self, path: Path, is_copied: bool) -> None:
+    def __init__(self, path: Path, is_copied: bool, is_checked: bool) -> None:
         # (of a map that may not be written no other object of ctypes gives the address)
         self._buffer = _Buffer()
         with open(path, "rb") as file:
@@ -52,9 +54,25 @@ class _File:
             held = file.read() if is_read else mmap.mmap(file.fileno(), 0, access=mmap.ACCESS_READ)
         _taken(held, self._buffer, 0)
         self.text = self._buffer.buf, self._buffer.len
+        # (what every question raises then)
+        self.fault = _fault_of(path, held) if is_checked else None
 
     def __del__(self) -> None:
         _given_back(self._buffer)
+
+
+def _fault_of(path: Path, held: Union[bytes, mmap.mmap]) -> Optional[ValueError]:
+    """Why a file is not what Silkwaram writes for a site, with its last LF or without; None where
+    it is."""
+    content = held[:]
+    try:
+        with Site.open(content) as site:
+            written = site.to_bytes()
+    except Refused as fault:
+        return fault.with_traceback(None)
+    if content in (written, written[:-1]):
+        return None
+    return ValueError(f"{os.fsdecode(path)} is a site, but not as Silkwaram writes it")
 
 
 class MappedSite(Questions):
@@ -67,17 +85,17 @@ class MappedSite(Questions):
 
     _calls = Calls(library.sw_text_lookup, library.sw_text_text, library.sw_text_filter)
 
-    def __init__(self, path: Path, copy: bool = False) -> None:
+    def __init__(self, path: Path, copy: bool = False, check: bool = False) -> None:
         """Maps the file. Call `silkwaram.mapped`."""
         try:
             self._path: Optional[Path] = os.fspath(path)
         except TypeError:
             raise wrong_type("path", "str, bytes or os.PathLike", path) from None
-        self._is_copied, self._is_closed = bool(copy), False
+        self._is_copied, self._is_checked, self._is_closed = bool(copy), bool(check), False
         # (held while the file is opened anew; that of a forked process is its own)
         self._lock, self._process = threading.Lock(), os.getpid()
-        self._file: Optional[_File] = _File(self._path, self._is_copied)
-        # (what is no site is refused here)
+        self._file: Optional[_File] = self._opened(self._path)
+        # (what reads as no site is refused here)
         self.lookup("-", None)
 
     def share(self) -> "MappedSite":
@@ -92,6 +110,8 @@ class MappedSite(Questions):
 
     def _ask(self, call: Any, *given: Any) -> Answer:
         file = self._current()
+        if file.fault is not None:
+            raise copied(file.fault)
 
         def asked(out: "ctypes.Array[ctypes.c_char]", room: int, told: Told) -> int:
             status: int = call(*file.text, *given, out, room, told)
@@ -111,6 +131,9 @@ class MappedSite(Questions):
         except OSError:
             return file
 
+    def _opened(self, path: Path) -> _File:
+        return _File(path, self._is_copied, self._is_checked)
+
     def _opened_anew(self, path: Path, before: _File) -> Optional[_File]:
         """The file that was put in place of another; None while another thread opens it."""
         if self._process != os.getpid():
@@ -121,7 +144,7 @@ class MappedSite(Questions):
         try:
             # (another thread may have opened it by now)
             if self._file is before:
-                self._file = _File(path, self._is_copied)
+                self._file = self._opened(path)
             file = self._file
         finally:
             lock.release()
@@ -130,7 +153,7 @@ class MappedSite(Questions):
         return file
 
 
-def mapped(path: Path, copy: bool = False) -> MappedSite:
+def mapped(path: Path, copy: bool = False, check: bool = False) -> MappedSite:
     """Returns the site of a file, which is asked where it lies: it is not opened.
 
         site = silkwaram.mapped("paris.json")
@@ -150,8 +173,13 @@ def mapped(path: Path, copy: bool = False) -> MappedSite:
     the first page that is gone (SIGBUS). With `copy` the bytes are read, and not mapped: whoever
     writes into such a file ends no process, though what was half written may be refused.
 
-    Refused, here and by each question: a file that is no site, as by `Site.open`. One in a form that
-    another program gave it may be read whole by each question, so open that. A file that cannot be
-    read is an OSError here.
+    Another program may have written the file again: with its members and rows in their order,
+    without blanks, and with any escapes in the strings of its rows. Of other bytes nothing is
+    promised but an answer: a label may be missing, without a refusal. What does not read as a site
+    is Refused, here or by a question. A file that cannot be read is an OSError here.
+
+    With `check` each new file is opened and written once, in the time and the memory of
+    `Site.open`. What is no site is Refused then, as by `Site.open`, and a site that is not just as
+    Silkwaram writes it is a ValueError: here, and by each question until the file is replaced.
     """
-    return MappedSite(path, copy)
+    return MappedSite(path, copy, check)
