@@ -144,8 +144,8 @@ int32_t sw_site_filter(sw_site *site, uint32_t flags, const uint8_t *id, size_t 
  * and the rows of the message.
  *   SW_FOUND, SW_NOTHING, SW_USAGE, SW_REFUSED   as sw_site_lookup, sw_site_text and sw_site_filter for the site
  * The answers are the same where another program wrote the document again, with its members and rows in their order and
- * without blanks: the strings of the rows may have any escapes that JSON has, as "\u00df" and "\/" (tried, not proved).
- * Where many ids have such ones, more rows are read.
+ * without blanks: the strings of the rows may have any escapes that JSON has, as "\u00df" and "\/". Where many ids have
+ * such ones, more rows are read.
  * A question that is refused over a site (its flags, id, default or field) is refused in the same way over any bytes.
  * Of other bytes nothing is promised but an answer: a label may be missing, without a refusal. Use sw_site_open for a
  * document in another form, and for what strangers send. No call reads outside of `text`, whatever its bytes are.

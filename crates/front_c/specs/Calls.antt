@@ -17,7 +17,7 @@ use Rattle.front_core.specs.TagPick.{IsPickedTag, RefusesPick}
 use Rattle.front_core.specs.Refusal.{refusal_of}
 use Rattle.front_core.specs.TagFilter.{IsTagFilter, RefusesTagFilter}
 use Rattle.front_core.specs.Translate.{AnswersMissing, AnswersOutdated, AreChangeLines, IsMissing}
-use Rattle.front_core.specs.Written.{IsWritten}
+use Rattle.text_docs.specs.Message.{IsCompactSite}
 use Rattle.front_core.specs.Translate.{IsOutdated, RefusesMissing, RefusesOutdated}
 use Rattle.front_core.specs.declared.answer.Answer.{Answer}
 use Rattle.front_core.specs.declared.exchange.View.{View}
@@ -137,11 +137,12 @@ ReportsMeaning number = ReportsLine (option_map (λ texts. texts.meaning) (refus
 abbrev pub ReportsRefusalText : ℕ → Ends
 ReportsRefusalText number = ReportsLine (option_map (λ texts. texts.text) (refusal_of number))
 
--- ---- questions to a written document
+-- ---- questions to a document where it lies
 
--- where the text is what is written for some site, the call ends as it does over this site
+-- where the text is the document of some site, and its rows have no blanks, the call ends as it
+-- does over this site
 abbrev pub ReportsWritten : Text → (Option SiteState → Ends) → Ends
-ReportsWritten text As old new told status = (site : SiteState) → IsWritten text site
+ReportsWritten text As old new told status = (site : SiteState) → IsCompactSite text site
     → As (Some site) old new told status
 
 -- whatever the text is, the arguments of a lookup are refused as over a site, or are a question

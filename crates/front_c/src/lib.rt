@@ -538,10 +538,10 @@ pub extern "C" fn sw_site_bundle(
     }
 }
 
-/// Looks up the one label of a message for a field in the document of a site, as it is written,
-/// where it lies, and answers the line of the command `lookup`.
+/// Looks up the one label of a message for a field in the document of a site, where it lies, and
+/// answers the line of the command `lookup`.
 ///
-/// Where the text is what is written for a site, with its last line feed or without, the call ends
+/// Where the rows of the document have no blanks, as in what is written for a site, the call ends
 /// as [`sw_site_lookup`] does over that site. Whatever the text is, a question that is refused
 /// there is refused here, in the same way. What else is answered or refused for any other text is
 /// not said.
@@ -599,10 +599,10 @@ pub extern "C" fn sw_text_text(
     }
 }
 
-/// Finds the labels of a message whose languages fit a field in the document of a site, as it is
-/// written, where it lies, and answers the lines of the command `filter`, as [`sw_site_filter`]
-/// does over the site of the text. Whatever the text is, a question that is refused there is
-/// refused here, in the same way.
+/// Finds the labels of a message whose languages fit a field in the document of a site, where it
+/// lies, and answers the lines of the command `filter`, as [`sw_site_filter`] does over the site of
+/// the text. Whatever the text is, a question that is refused there is refused here, in the same
+/// way.
 #[unsafe(no_mangle)]
 pub extern "C" fn sw_text_filter(
     alloc: Global,

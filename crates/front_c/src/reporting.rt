@@ -2,7 +2,7 @@
 ghost use Rattle.std.specs.Prelude.{◌≡◌, ◌≤◌, ◌++◌, Err, MatchResult, Ok, drop, length, option_map};
 ghost use Rattle.cata_core.specs.Site.{SiteState};
 ghost use Rattle.front_core.specs.Ask.{AnswersText, IsAnswer, IsNoMemory, RefusesAnswer};
-ghost use Rattle.front_core.specs.Written.{IsWritten};
+ghost use Rattle.text_docs.specs.Message.{IsCompactSite};
 ghost use Rattle.front_core.specs.Preferences.{field_text};
 ghost use Rattle.docs_core.specs.Lines.{lines_of};
 ghost use Rattle.front_core.specs.TagPick.{IsPickedTag, RefusesPick};
@@ -132,7 +132,7 @@ pub(crate) fn report_label_text(text: LabelText<'_>, out: &mut [u8], told: &mut 
     }
 }
 
-/// Reports a text of the label that a lookup finds in the document of a site, as it is written.
+/// Reports a text of the label that a lookup finds in the document of a site where it lies.
 pub(crate) fn report_text_in(
     alloc: Global,
     text: &[u8],
@@ -141,7 +141,7 @@ pub(crate) fn report_text_in(
     out: &mut [u8],
     told: &mut Told,
 ) -> i32
-    ensures written { (site : SiteState) → IsWritten text.now site
+    ensures written { (site : SiteState) → IsCompactSite text.now site
         → ReportsEither (AnswersText site.cells asked.now place) IsNoMemory ReportsLabelText
         out.old out.new told.new result }
     ensures some { ReportsSome ReportsLabelText out.old out.new told.new result }

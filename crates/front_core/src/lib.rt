@@ -7,9 +7,8 @@
 //!   calls edit it. A refused edit leaves it as it was, but for what [`OpenSite::merge`] and
 //!   [`OpenSite::take`] say of out of memory. A [`Change`] is the edit of one label, of such a site
 //!   or of a document. [`delta`] and [`changes`] compare a site in memory with another.
-//! - [`Lookup::answer_in`] and [`Filter::answer_in`] ask the document of a site, as it is written,
-//!   where it lies: of a text of any length they read the rows of one message, which
-//!   [`message_in`] finds by bisection.
+//! - [`Lookup::answer_in`] and [`Filter::answer_in`] ask the document of a site where it lies: of a
+//!   text of any length they read the rows of one message, which [`message_in`] finds by bisection.
 //! - [`pick`] finds a tag for a [`Field`] among tags, one on a line (RFC 4647, section 3.4), and
 //!   [`filter_tags`] finds all that the field takes (section 3.3); [`words`] has both of the
 //!   arguments of a command.

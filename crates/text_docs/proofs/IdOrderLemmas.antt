@@ -1,156 +1,207 @@
 -- Ids as they are written between quotes.
-use Rattle.std.proofs.Common.{◌≡◌, ◌≢◌, ◌∙◌, ◌++◌, ◌∷◌, [], ℕ, List, Bool, true, false, cond, ◌||◌}
-use Rattle.std.proofs.Common.{◌==◌, ◌⊎◌, inl, inr, IsTrue, refl, ap, sym, subst, true≢false}
-use Rattle.std.proofs.Common.{Option, Some, None}
+use Rattle.std.proofs.Common.{◌≡◌, ◌≢◌, ◌∙◌, ◌++◌, ◌∷◌, [], ℕ, List, Bool, true, false, ◌||◌}
+use Rattle.std.proofs.Common.{◌==◌, ◌⊎◌, inl, inr, refl, ap, cond, sym, subst, true≢false}
+use Rattle.std.proofs.Common.{Option, Some, None, ◌<◌, arith, get_or, length, suc}
 use Rattle.std.specs.Borrow.{Bor}
-use Rattle.std.specs.Prelude.{MatchOption}
+use Rattle.std.specs.Prelude.{MatchOption, nat_lt}
 use Rattle.std.specs.List.{All}
-use Rattle.std.proofs.lemmas.Bool.Decides.{nat_tests}
-use Rattle.std.proofs.Common.{◌<◌, arith, get_or, length, suc}
+use Rattle.std.proofs.lemmas.Bool.{eqb-false, eqb-true, ne_eqb}
 use Rattle.std.proofs.lemmas.List.Elements.{All-head, All-tail}
 use Rattle.memchr.specs.Find.{Nowhere, Passes, is_byte}
-use Rattle.json.specs.Print.{escape, escape_byte}
-use Rattle.cell_core.specs.MessageId.{is_id_byte}
+use Rattle.json.specs.Text.{short_escape}
 use Rattle.cell_core.specs.Entry.{text_cmp}
+use Rattle.lang_core.proofs.Basics.{each_true, one_true}
+use Rattle.catalogue.proofs.Basics.{some_same}
 use Rattle.std.specs.Cmp.{nat_cmp_total}
 use Rattle.std.specs.Ordering.{nat_cmp, ordering_reverse, ordering_then}
 use Rattle.std.specs.declared.cmp.Ordering.{Ordering}
 use Rattle.std.specs.declared.cmp.Ordering.TheVariants.{Equal, Greater, Less}
+use Rattle.text_docs.specs.Row.{is_simple, is_simple_from}
+use Rattle.text_docs.specs.RowStrings.{Character, IsCharacter, IsString, as_meant, as_written}
 use Rattle.text_docs.proofs.ListLemmas.{head_or, tail_of}
+use Rattle.text_docs.proofs.RowStringsLemmas.{unescaped_is}
 
--- a byte of an id
-abbrev pub IsIdByte : ℕ → Type 0
-IsIdByte b = IsTrue (is_id_byte b)
+-- what is written for a text that has some byte, without its first byte
+abbrev pub IsRest : List ℕ → List ℕ → ℕ → Type 0
+IsRest text rest first =
+    (more : List ℕ) × (text ≡ first ∷ more) × IsString rest more × (is_simple rest ≡ true)
 
--- of the bytes of an id quotes and backslashes alone have a backslash before them
-id_letter : (b : ℕ) → IsIdByte b
-    → escape_byte b ≡ cond ((b == 34) || (b == 92)) (92 ∷ b ∷ []) (b ∷ [])
-unfolding escape_byte is_id_byte
-id_letter b is = grind (arith, nat_tests)
+-- ---- the first character
 
--- what is written for an id that has some byte
-front : (b first : ℕ) (text rest : List ℕ) → IsIdByte b → first ∷ rest ≡ escape (b ∷ text)
-    → ((first ≡ 92) × (rest ≡ b ∷ escape text))
-    ⊎ ((first ≢ 92) × (first ≡ b) × (rest ≡ escape text))
-front b first text rest is written =
-    by ((b == 34) || (b == 92)) refl
-    (written ∙ ap (λ bs. bs ++ escape text) (id_letter b is))
+-- it stands for itself, or it has a backslash and then a letter, of which those two mean themselves
+data First (c : Character) (w : List ℕ) : Type 0 where
+  plain : (b : ℕ) → (b == 92) ≡ false → c.0 ++ w ≡ b ∷ w → c.1 ≡ b ∷ [] → First c w
+  escape : (x : ℕ) (more : List ℕ) → c.0 ++ w ≡ 92 ∷ x ∷ more
+      → ((x == 34) || (x == 92) ≡ true → (more ≡ w) × (c.1 ≡ x ∷ [])) → First c w
+
+means_itself : (x b : ℕ) → short_escape x ≡ Some b → (x == 34) || (x == 92) ≡ true → b ≡ x
+unfolding short_escape
+means_itself x b means special = by (one_true (x == 34) (x == 92) special)
   where
-    by : (t : Bool) → ((b == 34) || (b == 92)) ≡ t
-        → first ∷ rest ≡ cond ((b == 34) || (b == 92)) (92 ∷ b ∷ []) (b ∷ []) ++ escape text
-        → ((first ≡ 92) × (rest ≡ b ∷ escape text))
-        ⊎ ((first ≢ 92) × (first ≡ b) × (rest ≡ escape text))
-    by true special w =
-        let is = w ∙ ap (λ u. cond u (92 ∷ b ∷ []) (b ∷ []) ++ escape text) special in
-        inl (ap (head_or 0) is, ap tail_of is)
-    by false usual w =
-        let is = w ∙ ap (λ u. cond u (92 ∷ b ∷ []) (b ∷ []) ++ escape text) usual in
-        let same : first ≡ b = ap (head_or 0) is in
-        inr (
-          λ e. let backslash : b ≡ 92 = sym same ∙ e in
-              let test : ((b == 34) || (b == 92)) ≡ true = grind (arith, nat_tests) in
-              true≢false (sym test ∙ usual),
-          same,
-          ap tail_of is,
-        )
+    by : ((x == 34) ≡ true) ⊎ ((x == 92) ≡ true) → b ≡ x
+    by (inl quote) =
+        let is = eqb-true x 34 quote in
+        some_same b 34 (sym means ∙ ap short_escape is) ∙ sym is
+    by (inr backslash) =
+        let is = eqb-true x 92 backslash in
+        some_same b 92 (sym means ∙ ap short_escape is) ∙ sym is
+
+no_letter_u : (P : Type 0) → ((117 == 34) || (117 == 92)) ≡ true → P
+no_letter_u P is = absurd (true≢false (sym is))
+
+first_of : (c : Character) (w : List ℕ) → IsCharacter c → First c w
+first_of c w (inl one) =
+    plain one.byte (unescaped_is one.byte one.plain).1
+    (ap (λ (x : Character). x.0 ++ w) one.is) (ap (λ (x : Character). x.1) one.is)
+first_of c w (inr (inl one)) =
+    escape one.letter w (ap (λ (x : Character). x.0 ++ w) one.is)
+    (λ special. (
+      refl,
+      ap (λ (x : Character). x.1) one.is
+          ∙ ap (λ b. b ∷ []) (means_itself one.letter one.byte one.means special),
+    ))
+first_of c w (inr (inr (inl one))) =
+    let unit = one.written in
+    escape 117 (unit.first ∷ unit.second ∷ unit.third ∷ unit.fourth ∷ w)
+    (ap (λ (bs : List ℕ). bs ++ w) unit.is)
+    (λ special. no_letter_u _ special)
+first_of c w (inr (inr (inr one))) =
+    let unit = one.first_is in
+    escape 117 (unit.first ∷ unit.second ∷ unit.third ∷ unit.fourth ∷ (one.second ++ w))
+    (ap (λ (bs : List ℕ). bs ++ w)
+    (one.written ∙ ap (λ (bs : List ℕ). bs ++ one.second) unit.is))
+    (λ special. no_letter_u _ special)
+
+-- ---- one character less
+
+simple_rest : (b : ℕ) (bs : List ℕ) → (b == 92) ≡ false → is_simple (b ∷ bs) ≡ true
+    → is_simple bs ≡ true
+simple_rest b bs other simple = sym (ap (λ t. is_simple_from t bs) other) ∙ simple
 
 -- the first byte where no backslash is written
-pub plain_front : (text rest : List ℕ) (first : ℕ) → All IsIdByte text → first ∷ rest ≡ escape text
-    → first ≢ 92 → (more : List ℕ) × (text ≡ first ∷ more) × (rest ≡ escape more)
-plain_front [] rest first all written plain = cc
-plain_front (b ∷ text) rest first all written plain =
-    elim (front b first text rest (All-head IsIdByte b text all) written) [
-      | inl (special, _) ↦ absurd (plain special)
-      | inr (_, same, left) ↦ (text, ap (λ x. x ∷ text) (sym same), left)
-    ]
-
--- the first byte after a backslash
-escaped_front : (text rest : List ℕ) → All IsIdByte text → 92 ∷ rest ≡ escape text
-    → (b : ℕ) × (more : List ℕ) × (text ≡ b ∷ more) × (rest ≡ b ∷ escape more)
-escaped_front [] rest all written = cc
-escaped_front (b ∷ text) rest all written =
-    elim (front b 92 text rest (All-head IsIdByte b text all) written) [
-      | inl (_, left) ↦ (b, text, refl, left)
-      | inr (plain, _, _) ↦ absurd (plain refl)
-    ]
+pub plain_front : (text rest : List ℕ) (first : ℕ) → IsString (first ∷ rest) text
+    → is_simple (first ∷ rest) ≡ true → first ≢ 92 → IsRest text rest first
+plain_front text rest first is simple never = by is.characters is.each is.written_is is.text_is
+  where
+    by : (cs : List Character) → All IsCharacter cs → first ∷ rest ≡ as_written cs
+        → text ≡ as_meant cs → IsRest text rest first
+    by [] each written means = cc
+    by (c ∷ cs) each written means =
+        elim (first_of c (as_written cs) (All-head IsCharacter c cs each)) [
+          | plain b other front meant ↦
+              let same : first ∷ rest ≡ b ∷ as_written cs = written ∙ front in
+              let is_b : first ≡ b = ap (head_or 0) same in (
+                as_meant cs,
+                means ∙ ap (λ (bs : List ℕ). bs ++ as_meant cs) meant
+                    ∙ ap (λ x. x ∷ as_meant cs) (sym is_b),
+                record {
+                  characters = cs;
+                  each = All-tail IsCharacter c cs each;
+                  written_is = ap tail_of same;
+                  text_is = refl;
+                },
+                simple_rest first rest (ap (λ x. x == 92) is_b ∙ other) simple,
+              )
+          | escape x more front special ↦ absurd (never (ap (head_or 0) (written ∙ front)))
+        ]
 
 -- nothing is written for an empty text alone
-pub nothing_written : (text : List ℕ) → All IsIdByte text → [] ≡ escape text → text ≡ []
-nothing_written [] all written = refl
-nothing_written (b ∷ text) all written =
-    absurd (some ((b == 34) || (b == 92))
-    (written ∙ ap (λ bs. bs ++ escape text) (id_letter b (All-head IsIdByte b text all))))
+pub nothing_written : (text : List ℕ) → IsString [] text → text ≡ []
+nothing_written text is = by is.characters is.each is.written_is is.text_is
   where
-    some : (t : Bool) → [] ≡ cond t (92 ∷ b ∷ []) (b ∷ []) ++ escape text → ⊥
-    some true is = cc
-    some false is = cc
+    by : (cs : List Character) → All IsCharacter cs → [] ≡ as_written cs
+        → text ≡ as_meant cs → text ≡ []
+    by [] each written means = means
+    by (c ∷ cs) each written means =
+        elim (first_of c (as_written cs) (All-head IsCharacter c cs each)) [
+          | plain b other front meant ↦ absurd (let none = written ∙ front in cc)
+          | escape x more front special ↦ absurd (let none = written ∙ front in cc)
+        ]
 
--- a backslash is written before some byte alone
-no_backslash_last : (text rest : List ℕ) → All IsIdByte text → 92 ∷ rest ≡ escape text
-    → rest ≡ [] → text ≡ []
-no_backslash_last text rest all written none =
-    let front = escaped_front text rest all written in absurd (some (sym none ∙ front.3))
+-- a backslash has some byte after it, which is the first of the text where it has no other escape
+escaped_front : (text rest : List ℕ) → IsString (92 ∷ rest) text → is_simple (92 ∷ rest) ≡ true
+    → (b : ℕ) × (left : List ℕ) × (rest ≡ b ∷ left) × IsRest text left b
+escaped_front text rest is simple = by is.characters is.each is.written_is is.text_is
   where
-    some : {b : ℕ} {bs : List ℕ} → [] ≡ b ∷ bs → ⊥
-    some is = cc
-
--- the byte after a backslash is the first of the text
-byte_after : (text rest left : List ℕ) (byte : ℕ) → All IsIdByte text
-    → 92 ∷ rest ≡ escape text → rest ≡ byte ∷ left
-    → (more : List ℕ) × (text ≡ byte ∷ more) × (left ≡ escape more)
-byte_after text rest left byte all written is =
-    let front = escaped_front text rest all written in
-    let same : byte ∷ left ≡ front.0 ∷ escape front.1 = sym is ∙ front.3 in (
-      front.1,
-      front.2 ∙ ap (λ x. x ∷ front.1) (sym (ap (head_or 0) same)),
-      ap tail_of same,
-    )
+    by : (cs : List Character) → All IsCharacter cs → 92 ∷ rest ≡ as_written cs
+        → text ≡ as_meant cs
+        → (b : ℕ) × (left : List ℕ) × (rest ≡ b ∷ left) × IsRest text left b
+    by [] each written means = absurd (let none = written in cc)
+    by (c ∷ cs) each written means =
+        elim (first_of c (as_written cs) (All-head IsCharacter c cs each)) [
+          | plain b other front meant ↦
+              absurd (true≢false (ap (λ x. x == 92) (ap (head_or 0) (written ∙ front)) ∙ other))
+          | escape x more front special ↦
+              let rest_is : rest ≡ x ∷ more = ap tail_of (written ∙ front) in
+              let both =
+              each_true ((x == 34) || (x == 92)) (is_simple more)
+              (sym (ap (is_simple_from true) rest_is) ∙ simple) in
+              let it = special both.0 in (
+                x,
+                more,
+                rest_is,
+                (
+                  as_meant cs,
+                  means ∙ ap (λ (bs : List ℕ). bs ++ as_meant cs) it.1,
+                  record {
+                    characters = cs;
+                    each = All-tail IsCharacter c cs each;
+                    written_is = it.0;
+                    text_is = refl;
+                  },
+                  both.1,
+                ),
+              )
+        ]
 
 -- what is read after a backslash is that byte, and what is written for the rest of the text
-pub read_after : (text rest : List ℕ) (read : Option (ℕ × Bor (List ℕ))) → All IsIdByte text
-    → 92 ∷ rest ≡ escape text → MatchOption read (rest ≡ []) (λ r. rest ≡ r.0 ∷ r.1.now)
-    → MatchOption read (text ≡ [])
-    (λ r. (more : List ℕ) × (text ≡ r.0 ∷ more) × (r.1.now ≡ escape more))
-read_after text rest None all written none = no_backslash_last text rest all written none
-read_after text rest (Some r) all written is = byte_after text rest r.1.now r.0 all written is
-
--- what is written without a backslash is the text
-plain_written : (text : List ℕ) → All IsIdByte text
-    → ((k : ℕ) → k < length (escape text) → (get_or (escape text) k 0 == 92) ≡ true → ⊥)
-    → text ≡ escape text
-plain_written [] all plain = refl
-plain_written (b ∷ text) all plain =
-    by ((b == 34) || (b == 92)) refl (plain_written text (All-tail IsIdByte b text all))
+pub read_after : (text rest : List ℕ) (read : Option (ℕ × Bor (List ℕ))) → IsString (92 ∷ rest) text
+    → is_simple (92 ∷ rest) ≡ true → MatchOption read (rest ≡ []) (λ r. rest ≡ r.0 ∷ r.1.now)
+    → MatchOption read (text ≡ []) (λ r. IsRest text r.1.now r.0)
+read_after text rest None is simple none =
+    let front = escaped_front text rest is simple in
+    absurd (let never = sym none ∙ front.2 in cc)
+read_after text rest (Some r) is simple read =
+    let front = escaped_front text rest is simple in
+    let same : r.0 ∷ r.1.now ≡ front.0 ∷ front.1 = sym read ∙ front.2 in
+    moved front.0 r.0 front.1 r.1.now (ap (head_or 0) (sym same)) (ap tail_of (sym same)) front.3
   where
-    is : escape (b ∷ text) ≡ cond ((b == 34) || (b == 92)) (92 ∷ b ∷ []) (b ∷ []) ++ escape text
-    is = ap (λ bs. bs ++ escape text) (id_letter b (All-head IsIdByte b text all))
+    moved : (a b : ℕ) (xs ys : List ℕ) → a ≡ b → xs ≡ ys → IsRest text xs a → IsRest text ys b
+    moved a b xs ys one other rest =
+        subst (λ (n : ℕ). IsRest text ys n) one
+        (subst (λ (bs : List ℕ). IsRest text bs a) other rest)
 
-    by : (t : Bool) → ((b == 34) || (b == 92)) ≡ t
-        → (((k : ℕ) → k < length (escape text) → (get_or (escape text) k 0 == 92) ≡ true → ⊥)
-        → text ≡ escape text)
-        → b ∷ text ≡ escape (b ∷ text)
-    by true special rest =
-        let whole : escape (b ∷ text) ≡ 92 ∷ b ∷ escape text =
-        is ∙ ap (λ u. cond u (92 ∷ b ∷ []) (b ∷ []) ++ escape text) special in
-        absurd (plain 0 (omega (arith, ap length whole))
-        (ap (λ (bs : List ℕ). get_or bs 0 0 == 92) whole))
-    by false usual rest =
-        let whole : escape (b ∷ text) ≡ b ∷ escape text =
-        is ∙ ap (λ u. cond u (92 ∷ b ∷ []) (b ∷ []) ++ escape text) usual in
-        ap (λ bs. b ∷ bs)
-        (rest
-        (λ k within found. plain (suc k) (omega (arith, within, ap length whole))
-        (ap (λ (bs : List ℕ). get_or bs (suc k) 0 == 92) whole ∙ found)))
-        ∙ sym whole
+-- ---- without a backslash
 
--- and so are bytes in which there is none
-pub plain_is : (text written : List ℕ) → All IsIdByte text → written ≡ escape text
+-- none of these bytes is a backslash
+abbrev HasNone : List ℕ → Type 0
+HasNone bs = (k : ℕ) → k < length bs → (get_or bs k 0 == 92) ≡ true → ⊥
+
+all_plain : (cs : List Character) → All IsCharacter cs → HasNone (as_written cs)
+    → as_meant cs ≡ as_written cs
+all_plain [] each none = refl
+all_plain (c ∷ cs) each none =
+    elim (first_of c (as_written cs) (All-head IsCharacter c cs each)) [
+      | plain b other front meant ↦
+          ap (λ (bs : List ℕ). bs ++ as_meant cs) meant
+          ∙ ap (λ bs. b ∷ bs)
+          (all_plain cs (All-tail IsCharacter c cs each)
+          (λ k within found. none (suc k) (omega (arith, within, ap length front))
+          (ap (λ (bs : List ℕ). get_or bs (suc k) 0 == 92) front ∙ found)))
+          ∙ sym front
+      | escape x more front special ↦
+          absurd (none 0 (omega (arith, ap length front))
+          (ap (λ (bs : List ℕ). get_or bs 0 0 == 92) front))
+    ]
+
+-- bytes in which there is no backslash mean themselves
+pub plain_is : (text written : List ℕ) → IsString written text
     → Nowhere (Passes (is_byte 92) written) 0 (length written) → text ≡ written
-plain_is text written all is none =
-    plain_written text all
-    (subst (λ (bs : List ℕ). (k : ℕ) → k < length bs → (get_or bs k 0 == 92) ≡ true → ⊥) is
-    (λ k within found. none k (omega arith) within found))
-    ∙ sym is
+plain_is text written is none =
+    is.text_is
+    ∙ all_plain is.characters is.each
+    (subst HasNone is.written_is (λ k within found. none k (omega arith) within found))
+    ∙ sym is.written_is
 
 -- ---- the order of texts
 
@@ -166,16 +217,55 @@ same_first b xs ys =
 
 -- one byte more of both is the same
 pub one_byte_more : (text id right others more left : List ℕ) (byte other : ℕ)
-    → All IsIdByte more → text_cmp text id ≡ text_cmp more right → byte ≡ other
-    → right ≡ other ∷ others
-    → (next : List ℕ) × (more ≡ byte ∷ next) × (left ≡ escape next)
-    → (next : List ℕ) × All IsIdByte next × (left ≡ escape next)
+    → text_cmp text id ≡ text_cmp more right → byte ≡ other → right ≡ other ∷ others
+    → IsRest more left byte
+    → (next : List ℕ) × IsString left next × (is_simple left ≡ true)
     × (text_cmp text id ≡ text_cmp next others)
-one_byte_more text id right others more left byte other all so_far same head (next, is, left_is) = (
-  next,
-  All-tail IsIdByte byte next (subst (λ (bs : List ℕ). All IsIdByte bs) is all),
-  left_is,
-  so_far ∙ ap (λ bs. text_cmp bs right) is
-      ∙ ap (λ bs. text_cmp (byte ∷ next) bs) (head ∙ ap (λ b. b ∷ others) (sym same))
-      ∙ same_first byte next others,
+one_byte_more text id right others more left byte other so_far same head rest = (
+  rest.0,
+  rest.2,
+  rest.3,
+  so_far ∙ ap (λ bs. text_cmp bs right) rest.1
+      ∙ ap (λ bs. text_cmp (byte ∷ rest.0) bs) (head ∙ ap (λ b. b ∷ others) (sym same))
+      ∙ same_first byte rest.0 others,
 )
+
+other_byte : (a b : ℕ) (o : Ordering) → a ≢ b → ordering_then (nat_cmp a b) o ≡ nat_cmp a b
+other_byte a b o differ = by (nat_lt a b) (a == b) (ne_eqb a b differ)
+  where
+    by : (less same : Bool) → same ≡ false
+        → ordering_then (cond less Less (cond same Equal Greater)) o
+        ≡ cond less Less (cond same Equal Greater)
+    by true same is = refl
+    by false true is = absurd (true≢false is)
+    by false false is = refl
+
+-- texts of different first bytes are ordered as these
+pub first_decides : (text id right others more left : List ℕ) (byte other : ℕ) (order : Ordering)
+    → text_cmp text id ≡ text_cmp more right → IsRest more left byte → right ≡ other ∷ others
+    → byte ≢ other → order ≡ nat_cmp byte other → order ≡ text_cmp text id
+first_decides text id right others more left byte other order so_far (next, is, string, simple) head
+    differ own =
+    own
+    ∙ sym (so_far ∙ ap (λ bs. text_cmp bs right) is ∙ ap (λ bs. text_cmp (byte ∷ next) bs) head
+    ∙ other_byte byte other (text_cmp next others) differ)
+
+-- a text that goes on is greater
+pub goes_on : (text id right more left : List ℕ) (byte : ℕ) → text_cmp text id ≡ text_cmp more right
+    → IsRest more left byte → right ≡ [] → Greater ≡ text_cmp text id
+goes_on text id right more left byte so_far (next, is, string, simple) none =
+    sym (so_far ∙ ap (λ bs. text_cmp bs right) is ∙ ap (λ bs. text_cmp (byte ∷ next) bs) none)
+
+-- texts that both end are equal
+pub both_end : (text id right more : List ℕ) → text_cmp text id ≡ text_cmp more right → more ≡ []
+    → (length right == 0) ≡ true → Equal ≡ text_cmp text id
+both_end text id [] more so_far none size = sym (so_far ∙ ap (λ bs. text_cmp bs []) none)
+both_end text id (b ∷ right) more so_far none size =
+    absurd (omega (arith, eqb-true (length (b ∷ right)) 0 size))
+
+-- a text that ends first is less
+pub one_ends : (text id right more : List ℕ) → text_cmp text id ≡ text_cmp more right → more ≡ []
+    → (length right == 0) ≡ false → Less ≡ text_cmp text id
+one_ends text id [] more so_far none size = absurd (eqb-false 0 0 size refl)
+one_ends text id (b ∷ right) more so_far none size =
+    sym (so_far ∙ ap (λ bs. text_cmp bs (b ∷ right)) none)

@@ -1,7 +1,13 @@
 pub mod IdOrderLemmas
 pub mod ListLemmas
+pub mod MessageKeptLemmas
+pub mod MessageLaws
 pub mod MessageLemmas
+pub mod MessageTextLemmas
 pub mod PartLemmas
 pub mod RowBorderLemmas
 pub mod RowLaws
 pub mod RowStates
+pub mod RowStringsLemmas
+pub mod RowsPlainLemmas
+pub mod RowsReadLemmas

@@ -1,120 +1,45 @@
--- A document of some rows of a written one: those of a message are all there.
+-- A document of some rows of another one: those of a message are all there.
 use Rattle.std.proofs.Common.{◌≡◌, ◌∙◌, ◌<◌, ◌≤◌, ◌++◌, ◌∷◌, [], ℕ, List, Bool, true}
 use Rattle.std.proofs.Common.{false, cond, ◌⊎◌, inl, inr, refl, ap, sym, subst}
-use Rattle.std.proofs.Common.{arith, append_assoc, codes, drop, take, take-append-drop}
+use Rattle.std.proofs.Common.{arith, append_assoc, drop, take, take-append-drop}
 use Rattle.std.specs.Prelude.{Err, MatchResult, Ok, Result}
 use Rattle.cata_core.specs.Site.{SiteState}
 use Rattle.json_docs.specs.FaultChecks.{OrMemory}
 use Rattle.json_docs.specs.declared.fault.DocFault.{DocFault}
 use Rattle.row_docs.specs.Reading.{IsOfDocument, no_memory}
-use Rattle.site_docs.specs.Reading.{RefusesSite}
+use Rattle.site_docs.specs.Reading.{ReadsAsSite, RefusesSite}
 use Rattle.site_docs.proofs.ReadingOneDocument.{one_site}
-use Rattle.site_docs.proofs.PlainReads.{plain_site}
 use Rattle.query_docs.specs.OneMessage.{IsReadFor}
 use Rattle.docs_core.proofs.CallRefusals.{site_not_refused}
 use Rattle.std.proofs.Common.{IsUtf8, append-nil, get_or, length, length-append, map}
 use Rattle.std.specs.Prelude.{filter}
 use Rattle.std.specs.List.{All, slice_range}
 use Rattle.std.specs.Ordering.{is_eq, ordering_reverse}
+use Rattle.std.specs.declared.cmp.Ordering.{Ordering}
 use Rattle.std.specs.declared.cmp.Ordering.TheVariants.{Greater, Less}
 use Rattle.std.specs.Cmp.Lexicographic.{nat_list_cmp_total}
 use Rattle.std.proofs.lemmas.List.{append_cancel_right, map-append}
-use Rattle.std.proofs.lemmas.List.Elements.{All-head, All-tail, All-weaker, filter-append}
+use Rattle.std.proofs.lemmas.List.Elements.{All-cons, All-head, All-nil, All-tail, All-weaker}
+use Rattle.std.proofs.lemmas.List.Elements.{filter-append}
 use Rattle.cell_core.specs.Keyed.{IsMap}
 use Rattle.std.proofs.lemmas.List.Folds.{drop_split}
 use Rattle.std.proofs.lemmas.Str.{IsCharBoundary-before_ascii, IsUtf8-append, IsUtf8-drop}
 use Rattle.std.proofs.lemmas.Str.{IsUtf8-take}
 use Rattle.std.proofs.Common.{drop_at, take_at}
 use Rattle.std.proofs.Math.Seq.{get_or-append_seam}
-use Rattle.json.specs.Print.{quoted}
-use Rattle.serde_json.specs.Data.{Data}
-use Rattle.serde_json.specs.Written.{compact_text}
 use Rattle.cell_core.specs.Entry.{key_cmp, text_cmp}
 use Rattle.catalogue.specs.Entries.{Entries, Entry}
 use Rattle.catalogue.specs.Live.{live, live_of}
-use Rattle.row_docs.specs.Entries.{cells_values, entry_value}
 use Rattle.row_docs.specs.EntriesValid.{AreKeptCells, IsKeptCell}
-use Rattle.row_docs.specs.declared.kind.Kind.TheVariants.{Site}
-use Rattle.site_docs.specs.Plain.{IsEnd, IsPlainText, IsTextOf, cells_document, last_members}
-use Rattle.site_docs.specs.Plain.{open_items, rows_text}
-use Rattle.site_docs.proofs.PlainLemmas.{document_taken, open_later as later_items}
+use Rattle.text_docs.specs.Message.{IsCompactSite}
 use Rattle.text_docs.specs.Part.{BeginsAt, BeginsBefore, EndsAfter, EndsAt}
 use Rattle.text_docs.specs.Rows.{AreRows, AreRowsAt, IsTail, opening}
-use Rattle.text_docs.proofs.RowBorderLemmas.{array_is, rows_step}
+use Rattle.text_docs.specs.RowsCompact.{CompactRow, IsCompactRow, entries, row_text, rows_text}
+use Rattle.text_docs.proofs.MessageKeptLemmas.{kept_of_reads}
+use Rattle.text_docs.proofs.RowBorderLemmas.{rows_step}
+use Rattle.text_docs.proofs.RowsReadLemmas.{rows_read}
 use Rattle.text_docs.proofs.ListLemmas.{All-back, All-front, cut_twice}
 use Rattle.cell_core.proofs.ChunkLemmas.{map_back, map_front}
-
--- ---- the document as a whole
-
--- the text of the document of these rows, up to its brace
-document_is : (name : List ℕ) (rows : List Data)
-    → compact_text (cells_document Site name rows)
-    ≡ opening ++ (open_items false rows
-    ++ 93 ∷ last_members (codes "site") (codes "site") name (125 ∷ []))
-document_is name rows =
-    let last = last_members (codes "site") (codes "site") name (125 ∷ []) in
-    ap (λ bs. 123 ∷ (quoted (codes "cells") ++ 58 ∷ bs)) (array_is rows last)
-    ∙ ap (λ bs. 123 ∷ bs)
-    (sym (append_assoc (quoted (codes "cells")) (58 ∷ 91 ∷ []) (open_items false rows ++ 93 ∷ last)))
-
--- with what comes after the brace
-fed : (first second : List ℕ) (name : List ℕ)
-    → (first ++ (second ++ 93 ∷ last_members (codes "site") (codes "site") name (125 ∷ []))) ++ 10 ∷ []
-    ≡ first ++ (second ++ 93 ∷ last_members (codes "site") (codes "site") name (125 ∷ 10 ∷ []))
-fed first second name = simp append_assoc
-
--- a written document has its rows between its first and its last members
-pub rows_of_text : (bytes name : List ℕ) (cells : Entries) → IsPlainText Site bytes name cells
-    → (end : List ℕ) × IsEnd end
-    × AreRows bytes cells (93 ∷ last_members (codes "site") (codes "site") name end)
-rows_of_text bytes name cells plain = by plain.text
-  where
-    rows : (end : List ℕ) → IsEnd end
-        → bytes ≡ opening ++ (open_items false (cells_values cells)
-        ++ 93 ∷ last_members (codes "site") (codes "site") name end)
-        → (end : List ℕ) × IsEnd end
-        × AreRows bytes cells (93 ∷ last_members (codes "site") (codes "site") name end)
-    rows end is whole = (
-      end,
-      is,
-      record {
-        whole = whole;
-        is_tail = record {
-          name = name;
-          end = end;
-          is_name = plain.is_name;
-          is_end = is;
-          tail_is = refl;
-        };
-        kept = plain.kept;
-      },
-    )
-
-    by : IsTextOf (cells_document Site name (cells_values cells)) bytes
-        → (end : List ℕ) × IsEnd end
-        × AreRows bytes cells (93 ∷ last_members (codes "site") (codes "site") name end)
-    by (inl is) =
-        rows (125 ∷ 10 ∷ []) (inl refl)
-        (is ∙ ap (λ bs. bs ++ 10 ∷ []) (document_is name (cells_values cells))
-        ∙ fed opening (open_items false (cells_values cells)) name)
-    by (inr cut) =
-        rows (125 ∷ []) (inr refl)
-        (append_cancel_right bytes (compact_text (cells_document Site name (cells_values cells)))
-        (10 ∷ []) cut ∙ document_is name (cells_values cells))
-
--- rows with such members before and after them are a written document
-text_of_rows : (bytes name end : List ℕ) (cells : Entries) → IsEnd end
-    → bytes ≡ opening ++ (open_items false (cells_values cells)
-    ++ 93 ∷ last_members (codes "site") (codes "site") name end)
-    → IsTextOf (cells_document Site name (cells_values cells)) bytes
-text_of_rows bytes name end cells is whole =
-    let last = last_members (codes "site") (codes "site") name end in
-    let rows = open_items false (cells_values cells) in
-    document_taken Site bytes (rows_text cells ++ last) last name end cells
-    (whole ∙ ap (λ bs. 123 ∷ bs)
-    (append_assoc (quoted (codes "cells")) (58 ∷ 91 ∷ []) (rows ++ 93 ∷ last)
-    ∙ ap (λ bs. quoted (codes "cells") ++ 58 ∷ bs) (sym (array_is (cells_values cells) last))))
-    refl is refl
 
 -- ---- UTF-8
 
@@ -137,11 +62,11 @@ ascii_cut xs bs ys b low is utf8 =
 abbrev Starts : List ℕ → Type 0
 Starts bs = (b : ℕ) × (ys : List ℕ) × (b < 128) × (bs ≡ b ∷ ys)
 
-rows_start : (later : Bool) (cells : Entries) (tail : List ℕ) → IsTail tail
-    → Starts (open_items later (cells_values cells) ++ tail)
+rows_start : (later : Bool) (rows : List CompactRow) (tail : List ℕ) → IsTail tail
+    → Starts (rows_text later rows ++ tail)
 rows_start later [] tail is = (93, _, omega arith, is.tail_is)
-rows_start true (e ∷ es) tail is = (44, _, omega arith, rows_step true e es tail)
-rows_start false (e ∷ es) tail is = (91, _, omega arith, rows_step false e es tail)
+rows_start true (row ∷ rows) tail is = (44, _, omega arith, rows_step true row rows tail)
+rows_start false (row ∷ rows) tail is = (91, _, omega arith, rows_step false row rows tail)
 
 cut_at : (xs bs : List ℕ) → Starts bs → IsUtf8 (xs ++ bs) → IsUtf8 xs × IsUtf8 bs
 cut_at xs bs (b, ys, low, is) utf8 = ascii_cut xs bs ys b low is utf8
@@ -154,11 +79,20 @@ drop_utf8 bytes rest place is starts utf8 =
 
 -- ---- rows one after another
 
-first_items : (d : Data) (ds es : List Data)
-    → open_items false ((d ∷ ds) ++ es) ≡ open_items false (d ∷ ds) ++ open_items true es
-first_items d ds es =
-    ap (λ r. compact_text d ++ r) (later_items ds es)
-    ∙ sym (append_assoc (compact_text d) (open_items true ds) (open_items true es))
+rows_later : (rows others : List CompactRow)
+    → rows_text true (rows ++ others) ≡ rows_text true rows ++ rows_text true others
+rows_later [] others = refl
+rows_later (row ∷ rows) others =
+    ap (λ r. 44 ∷ (row_text row ++ r)) (rows_later rows others)
+    ∙ ap (λ r. 44 ∷ r)
+    (sym (append_assoc (row_text row) (rows_text true rows) (rows_text true others)))
+
+first_rows : (row : CompactRow) (rows others : List CompactRow)
+    → rows_text false ((row ∷ rows) ++ others)
+    ≡ rows_text false (row ∷ rows) ++ rows_text true others
+first_rows row rows others =
+    ap (λ r. row_text row ++ r) (rows_later rows others)
+    ∙ sym (append_assoc (row_text row) (rows_text true rows) (rows_text true others))
 
 -- a text is no shorter than its end
 not_longer : (xs ys : List ℕ) → ys ≡ xs ++ 44 ∷ ys → ⊥
@@ -166,25 +100,22 @@ not_longer xs ys is =
     let lengths = ap length is ∙ length-append xs (44 ∷ ys) in omega (arith, lengths)
 
 -- the rows between two places, of which the second has a comma before it
-rows_between : (from to slice tail : List ℕ) (middle after : Entries) → from ≡ slice ++ to
-    → from ≡ open_items false (cells_values (middle ++ after)) ++ tail
-    → to ≡ open_items true (cells_values after) ++ tail
-    → slice ≡ open_items false (cells_values middle)
+rows_between : (from to slice tail : List ℕ) (middle after : List CompactRow) → from ≡ slice ++ to
+    → from ≡ rows_text false (middle ++ after) ++ tail
+    → to ≡ rows_text true after ++ tail
+    → slice ≡ rows_text false middle
 rows_between from to slice tail [] [] split first last =
     append_cancel_right slice [] tail
     (ap (λ r. slice ++ r) (sym last) ∙ sym split ∙ first)
-rows_between from to slice tail [] (e ∷ es) split first last =
-    absurd (not_longer slice (open_items false (cells_values (e ∷ es)) ++ tail)
+rows_between from to slice tail [] (row ∷ rows) split first last =
+    absurd (not_longer slice (rows_text false (row ∷ rows) ++ tail)
     (sym first ∙ split ∙ ap (λ r. slice ++ r) last))
-rows_between from to slice tail (e ∷ es) after split first last =
-    append_cancel_right slice (open_items false (cells_values (e ∷ es)))
-    (open_items true (cells_values after) ++ tail)
+rows_between from to slice tail (row ∷ rows) after split first last =
+    append_cancel_right slice (rows_text false (row ∷ rows))
+    (rows_text true after ++ tail)
     (ap (λ r. slice ++ r) (sym last) ∙ sym split ∙ first
-    ∙ ap (λ ds. open_items false ds ++ tail) (map-append entry_value (e ∷ es) after)
-    ∙ ap (λ r. r ++ tail)
-    (first_items (entry_value e) (cells_values es) (cells_values after))
-    ∙ append_assoc (open_items false (cells_values (e ∷ es)))
-    (open_items true (cells_values after)) tail)
+    ∙ ap (λ r. r ++ tail) (first_rows row rows after)
+    ∙ append_assoc (rows_text false (row ∷ rows)) (rows_text true after) tail)
 
 -- ---- cells of other messages
 
@@ -227,130 +158,169 @@ live_between id before middle after less greater =
 
 -- ---- the part of a message
 
--- the rows between two places, of which no others are of the message
-pub record IsPart (id : List ℕ) (cells : Entries) (slice : List ℕ) : Type 0 where
-  pub middle : Entries
-  pub kept : AreKeptCells middle
-  pub slice_is : slice ≡ open_items false (cells_values middle)
-  pub live_is : live middle id ≡ live cells id
+-- what holds of rows holds of their entries
+to_entries : (P : Entry → Type 0) (rows : List CompactRow)
+    → All (λ (row : CompactRow). P row.entry) rows → All P (entries rows)
+to_entries P [] all = All-nil P
+to_entries P (row ∷ rows) all =
+    All-cons P row.entry (entries rows) (All-head (λ (r : CompactRow). P r.entry) row rows all)
+    (to_entries P rows (All-tail (λ (r : CompactRow). P r.entry) row rows all))
 
-part_between : (id slice from to : List ℕ) (cells : Entries) (tail : List ℕ) → AreKeptCells cells
-    → BeginsAt id from cells tail → EndsAt id to cells tail → from ≡ slice ++ to
-    → IsPart id cells slice
-part_between id slice from to cells tail kept begins ends split =
+entries_of_both : (rows others : List CompactRow)
+    → entries (rows ++ others) ≡ entries rows ++ entries others
+entries_of_both rows others = map-append (λ (row : CompactRow). row.entry) rows others
+
+-- the rows between two places, of which no others are of the message
+pub record IsPart (id : List ℕ) (rows : List CompactRow) (slice : List ℕ) : Type 0 where
+  pub middle : List CompactRow
+  pub each : All IsCompactRow middle
+  pub kept : AreKeptCells (entries middle)
+  pub slice_is : slice ≡ rows_text false middle
+  pub live_is : live (entries middle) id ≡ live (entries rows) id
+
+-- the id of the row is ordered so to this one
+abbrev IsOrdered : List ℕ → Ordering → CompactRow → Type 0
+IsOrdered id order row = text_cmp row.entry.0.0 id ≡ order
+
+part_between : (id slice from to : List ℕ) (rows : List CompactRow) (tail : List ℕ)
+    → All IsCompactRow rows → AreKeptCells (entries rows) → BeginsAt id from rows tail
+    → EndsAt id to rows tail → from ≡ slice ++ to → IsPart id rows slice
+part_between id slice from to rows tail each kept begins ends split =
     by (cut_twice begins.before begins.after ends.before ends.after
-    (sym begins.cells_are ∙ ends.cells_are))
+    (sym begins.rows_are ∙ ends.rows_are))
   where
-    part : (m : Entries) → ends.before ≡ begins.before ++ m → begins.after ≡ m ++ ends.after
-        → IsPart id cells slice
+    part : (m : List CompactRow) → ends.before ≡ begins.before ++ m → begins.after ≡ m ++ ends.after
+        → IsPart id rows slice
     part m longer left =
-        let whole : cells ≡ begins.before ++ (m ++ ends.after) =
-        begins.cells_are ∙ ap (λ (es : Entries). begins.before ++ es) left in record {
+        let first = entries begins.before in
+        let last = entries ends.after in
+        let own = entries m in
+        let whole : rows ≡ begins.before ++ (m ++ ends.after) =
+        begins.rows_are ∙ ap (λ (rs : List CompactRow). begins.before ++ rs) left in
+        let cells : entries rows ≡ first ++ (own ++ last) =
+        ap entries whole ∙ entries_of_both begins.before (m ++ ends.after)
+        ∙ ap (λ (es : Entries). first ++ es) (entries_of_both m ends.after) in record {
           middle = m;
+          each =
+              All-front IsCompactRow m ends.after
+              (All-back IsCompactRow begins.before (m ++ ends.after)
+              (subst (λ (rs : List CompactRow). All IsCompactRow rs) whole each));
           kept = record {
             each =
-                All-front IsKeptCell m ends.after
-                (All-back IsKeptCell begins.before (m ++ ends.after)
-                (subst (λ (es : Entries). All IsKeptCell es) whole kept.each));
+                All-front IsKeptCell own last
+                (All-back IsKeptCell first (own ++ last)
+                (subst (λ (es : Entries). All IsKeptCell es) cells kept.each));
             map =
-                map_front key_cmp m ends.after
-                (map_back key_cmp begins.before (m ++ ends.after)
-                (subst (λ (es : Entries). IsMap key_cmp es) whole kept.map));
+                map_front key_cmp own last
+                (map_back key_cmp first (own ++ last)
+                (subst (λ (es : Entries). IsMap key_cmp es) cells kept.map));
           };
           slice_is =
               rows_between from to slice tail m ends.after split
-              (begins.rest_is
-              ∙ ap (λ (es : Entries). open_items false (cells_values es) ++ tail) left)
+              (begins.rest_is ∙ ap (λ (rs : List CompactRow). rows_text false rs ++ tail) left)
               ends.rest_is;
           live_is =
-              sym (ap (λ (es : Entries). live es id) whole
-              ∙ live_between id begins.before m ends.after begins.others ends.others);
+              sym (ap (λ (es : Entries). live es id) cells
+              ∙ live_between id first own last
+              (to_entries (λ (e : Entry). text_cmp e.0.0 id ≡ Less) begins.before begins.others)
+              (to_entries (λ (e : Entry). text_cmp e.0.0 id ≡ Greater) ends.after ends.others));
         }
 
-    both : (e : Entry) → text_cmp e.0.0 id ≡ Less → text_cmp e.0.0 id ≡ Greater → ⊥
-    both e less greater = cc
+    both : (row : CompactRow) → text_cmp row.entry.0.0 id ≡ Less
+        → text_cmp row.entry.0.0 id ≡ Greater → ⊥
+    both row less greater = cc
 
-    by : ((m : Entries) × (ends.before ≡ begins.before ++ m) × (begins.after ≡ m ++ ends.after))
-        ⊎ ((e : Entry) × (m : Entries) × (begins.before ≡ ends.before ++ e ∷ m)
-        × (ends.after ≡ e ∷ (m ++ begins.after))) → IsPart id cells slice
+    by : ((m : List CompactRow) × (ends.before ≡ begins.before ++ m)
+        × (begins.after ≡ m ++ ends.after))
+        ⊎ ((row : CompactRow) × (m : List CompactRow) × (begins.before ≡ ends.before ++ row ∷ m)
+        × (ends.after ≡ row ∷ (m ++ begins.after))) → IsPart id rows slice
     by (inl (m, longer, left)) = part m longer left
-    by (inr (e, m, first, last)) =
-        absurd (both e
-        (All-head (λ (x : Entry). text_cmp x.0.0 id ≡ Less) e m
-        (All-back (λ (x : Entry). text_cmp x.0.0 id ≡ Less) ends.before (e ∷ m)
-        (subst (λ (es : Entries). All (λ (x : Entry). text_cmp x.0.0 id ≡ Less) es) first
-        begins.others)))
-        (All-head (λ (x : Entry). text_cmp x.0.0 id ≡ Greater) e (m ++ begins.after)
-        (subst (λ (es : Entries). All (λ (x : Entry). text_cmp x.0.0 id ≡ Greater) es) last
-        ends.others)))
+    by (inr (row, m, first, last)) =
+        absurd (both row
+        (All-head (IsOrdered id Less) row m
+        (All-back (IsOrdered id Less) ends.before (row ∷ m)
+        (subst (λ (rs : List CompactRow). All (IsOrdered id Less) rs) first begins.others)))
+        (All-head (IsOrdered id Greater) row (m ++ begins.after)
+        (subst (λ (rs : List CompactRow). All (IsOrdered id Greater) rs) last ends.others)))
+
+-- the site without other rows has the same live labels of the message
+pub record IsSitePart (document id : List ℕ) (cells : Entries) : Type 0 where
+  pub site : SiteState
+  pub reads : ReadsAsSite document site
+  pub live_is : live site.cells id ≡ live cells id
+
+-- the rows of a site without blanks
+rows_of_site : (bytes : List ℕ) (site : SiteState) → (compact : IsCompactSite bytes site)
+    → AreRows bytes compact.rows compact.tail
+rows_of_site bytes site compact = record {
+  whole = compact.whole;
+  is_tail = compact.is_tail;
+  each = compact.each;
+  kept = subst AreKeptCells (sym compact.cells) (kept_of_reads bytes site compact.reads);
+}
 
 -- the document of the rows between two places, of which no others are of the message
-pub part_is_text : (bytes document name id : List ℕ) (cells : Entries) (top start end last : ℕ)
-    → IsPlainText Site bytes name cells → AreRowsAt bytes top last → BeginsBefore bytes id start
+pub part_reads : (bytes document id : List ℕ) (site : SiteState) (top start end last : ℕ)
+    → IsCompactSite bytes site → AreRowsAt bytes top last → BeginsBefore bytes id start
     → EndsAfter bytes id end → start ≤ end
     → document ≡ opening ++ (slice_range bytes start end ++ drop last bytes)
-    → (middle : Entries) × IsPlainText Site document name middle × (live middle id ≡ live cells id)
-part_is_text bytes document name id cells top start end last plain rows_at begins ends ordered is =
-    by (rows_of_text bytes name cells plain)
-  where
-    by : (close : List ℕ) × IsEnd close
-        × AreRows bytes cells (93 ∷ last_members (codes "site") (codes "site") name close)
-        → (middle : Entries) × IsPlainText Site document name middle
-        × (live middle id ≡ live cells id)
-    by (close, is_close, rows) =
-        let tail = 93 ∷ last_members (codes "site") (codes "site") name close in
-        let slice = slice_range bytes start end in
-        let begin = begins cells tail rows in
-        let finish = ends cells tail rows in
-        let split = drop_split bytes start end ordered in
-        let part =
-        part_between id slice (drop start bytes) (drop end bytes) cells tail rows.kept begin finish
-        split in
-        let last_is = rows_at.finish cells tail rows in
-        let whole : document
-        ≡ opening ++ (open_items false (cells_values part.middle) ++ tail) =
-        is ∙ ap (λ bs. opening ++ (bs ++ drop last bytes)) part.slice_is
-        ∙ ap (λ bs. opening ++ (open_items false (cells_values part.middle) ++ bs)) last_is in
-        let from_utf8 : IsUtf8 (drop start bytes) =
-        subst IsUtf8 (sym begin.rest_is)
-        (drop_utf8 bytes (open_items false (cells_values begin.after) ++ tail) start begin.rest_is
-        (rows_start false begin.after tail rows.is_tail) plain.utf8) in
-        let slice_utf8 : IsUtf8 slice =
-        (cut_at slice (open_items true (cells_values finish.after) ++ tail)
-        (rows_start true finish.after tail rows.is_tail)
-        (subst IsUtf8 (split ∙ ap (λ bs. slice ++ bs) finish.rest_is) from_utf8)).0 in
-        let opening_utf8 : IsUtf8 opening =
-        (cut_at opening (open_items false (cells_values cells) ++ tail)
-        (rows_start false cells tail rows.is_tail) (subst IsUtf8 rows.whole plain.utf8)).0 in
-        let tail_utf8 : IsUtf8 (drop last bytes) =
-        subst IsUtf8 (sym last_is)
-        (drop_utf8 bytes tail last last_is (rows_start false [] tail rows.is_tail) plain.utf8) in (
-          part.middle,
-          record {
-            text = text_of_rows document name close part.middle is_close whole;
-            utf8 =
-                subst IsUtf8 (sym is)
-                (IsUtf8-append opening (slice ++ drop last bytes) opening_utf8
-                (IsUtf8-append slice (drop last bytes) slice_utf8 tail_utf8));
-            is_name = plain.is_name;
-            kept = part.kept;
-          },
-          part.live_is,
-        )
+    → IsSitePart document id site.cells
+part_reads bytes document id site top start end last compact rows_at begins ends ordered is =
+    let rows = compact.rows in
+    let tail = compact.tail in
+    let are = rows_of_site bytes site compact in
+    let utf8 : IsUtf8 bytes = compact.reads.1.0 in
+    let slice = slice_range bytes start end in
+    let begin = begins rows tail are in
+    let finish = ends rows tail are in
+    let split = drop_split bytes start end ordered in
+    let part =
+    part_between id slice (drop start bytes) (drop end bytes) rows tail are.each are.kept begin
+    finish split in
+    let last_is = rows_at.finish rows tail are in
+    let whole : document ≡ opening ++ (rows_text false part.middle ++ tail) =
+    is ∙ ap (λ bs. opening ++ (bs ++ drop last bytes)) part.slice_is
+    ∙ ap (λ bs. opening ++ (rows_text false part.middle ++ bs)) last_is in
+    let from_utf8 : IsUtf8 (drop start bytes) =
+    subst IsUtf8 (sym begin.rest_is)
+    (drop_utf8 bytes (rows_text false begin.after ++ tail) start begin.rest_is
+    (rows_start false begin.after tail are.is_tail) utf8) in
+    let slice_utf8 : IsUtf8 slice =
+    (cut_at slice (rows_text true finish.after ++ tail)
+    (rows_start true finish.after tail are.is_tail)
+    (subst IsUtf8 (split ∙ ap (λ bs. slice ++ bs) finish.rest_is) from_utf8)).0 in
+    let opening_utf8 : IsUtf8 opening =
+    (cut_at opening (rows_text false rows ++ tail)
+    (rows_start false rows tail are.is_tail) (subst IsUtf8 are.whole utf8)).0 in
+    let tail_utf8 : IsUtf8 (drop last bytes) =
+    subst IsUtf8 (sym last_is)
+    (drop_utf8 bytes tail last last_is (rows_start false [] tail are.is_tail) utf8) in
+    let own : AreRows document part.middle tail = record {
+      whole = whole;
+      is_tail = are.is_tail;
+      each = part.each;
+      kept = part.kept;
+    } in record {
+      site = record { name = are.is_tail.name; cells = entries part.middle };
+      reads =
+          rows_read document tail part.middle own
+          (subst IsUtf8 (sym is)
+          (IsUtf8-append opening (slice ++ drop last bytes) opening_utf8
+          (IsUtf8-append slice (drop last bytes) slice_utf8 tail_utf8)));
+      live_is = part.live_is ∙ ap (λ (es : Entries). live es id) compact.cells;
+    }
 
 -- what is read of such a document answers questions about the message
-pub answers_message : (document name id : List ℕ) (cells middle : Entries)
-    (result : Result SiteState DocFault) → IsPlainText Site document name middle
-    → live middle id ≡ live cells id
+pub answers_message : (document id : List ℕ) (cells : Entries) (site : SiteState)
+    (result : Result SiteState DocFault) → ReadsAsSite document site
+    → live site.cells id ≡ live cells id
     → MatchResult result (IsReadFor document id)
     (OrMemory no_memory (IsOfDocument 1 (RefusesSite document)))
     → MatchResult result (λ part. live part.cells id ≡ live cells id) (λ fault. fault ≡ no_memory)
-answers_message document name id cells middle (Ok part) plain same read =
-    let site : SiteState = record { name = name; cells = middle } in
+answers_message document id cells site (Ok part) reads same read =
     read.3
     ∙ ap (λ (s : SiteState). live s.cells id)
-    (one_site document read.0 site read.1 (plain_site document name middle plain)) ∙ same
-answers_message document name id cells middle (Err fault) plain same (inl memory) = memory
-answers_message document name id cells middle (Err fault) plain same (inr refused) =
-    absurd (site_not_refused 1 document (record { name = name; cells = middle }) fault
-    (plain_site document name middle plain) refused)
+    (one_site document read.0 site read.1 reads) ∙ same
+answers_message document id cells site (Err fault) reads same (inl memory) = memory
+answers_message document id cells site (Err fault) reads same (inr refused) =
+    absurd (site_not_refused 1 document site fault reads refused)

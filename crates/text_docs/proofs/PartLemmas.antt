@@ -1,46 +1,42 @@
--- Where the rows of a message lie among all rows of a written document.
-use Rattle.std.proofs.Common.{◌≡◌, ◌∙◌, ◌+◌, ◌<◌, ◌≤◌, ◌++◌, ◌∷◌, [], ℕ, List, Bool, true}
+-- Where the rows of a message lie among all rows of a document.
+use Rattle.std.proofs.Common.{◌≡◌, ◌∙◌, ◌+◌, ◌≤◌, ◌++◌, ◌∷◌, [], ℕ, List, Bool, true}
 use Rattle.std.proofs.Common.{false, cond, ◌==◌, ◌⊎◌, inl, inr, ⊎_elim, refl, ap, sym, subst}
 use Rattle.std.proofs.Common.{arith, append_assoc, codes, decimal, drop, take, take-append-drop}
 use Rattle.std.proofs.Common.{append-nil, ap₂, drop_at, length, length-drop, drop-drop}
-use Rattle.std.proofs.Common.{true≢false, ◌/◌, ◌%◌}
+use Rattle.std.proofs.Common.{true≢false}
 use Rattle.std.specs.List.{All}
 use Rattle.std.specs.Ordering.{is_gt, is_lt, ordering_reverse, ordering_then}
 use Rattle.std.specs.declared.cmp.Ordering.{Ordering}
 use Rattle.std.specs.declared.cmp.Ordering.TheVariants.{Equal, Greater, Less}
 use Rattle.std.specs.Cmp.Lexicographic.{nat_list_cmp_total}
 use Rattle.std.specs.FinMap.Entries.{below_all, is_sorted}
-use Rattle.std.proofs.lemmas.List.Elements.{All-cons, All-head, All-nil, All-weaker}
+use Rattle.std.proofs.lemmas.List.{map-append}
+use Rattle.std.proofs.lemmas.List.Elements.{All-cons, All-head, All-nil, All-tail, All-weaker}
 use Rattle.std.proofs.lemmas.Map.Lookups.{exact_bytes}
-use Rattle.json.specs.Print.{escape, escape_byte, escape_letter, quoted}
-use Rattle.std.specs.Char.{digit_char}
-use Rattle.std.specs.Prelude.{nat_lt}
-use Rattle.std.proofs.lemmas.Bool.Decides.{nat_tests}
+use Rattle.json.specs.Print.{escape_byte, quoted}
 use Rattle.cell_core.specs.Keyed.{IsMap}
 use Rattle.cell_core.specs.Entry.{EntryKey, key_cmp, text_cmp}
 use Rattle.catalogue.specs.Entries.{Entries, Entry}
 use Rattle.catalogue.proofs.CatalogueAboveLemmas.{front_below}
-use Rattle.row_docs.specs.Entries.{cells_values, row_of}
-use Rattle.row_docs.specs.EntriesValid.{IsKeptCell}
-use Rattle.site_docs.specs.Plain.{IsEnd, last_members, open_items}
-use Rattle.site_docs.specs.PlainRows.{row_before}
+use Rattle.site_docs.specs.Plain.{IsEnd, last_members}
 use Rattle.text_docs.specs.Part.{BeginsAt, BeginsBefore, EndsAfter, EndsAt}
-use Rattle.text_docs.specs.Row.{ReadsAsRow, is_unclosed, is_unclosed_from}
+use Rattle.text_docs.specs.Row.{ReadsAsRow, is_simple, is_unclosed_from}
+use Rattle.text_docs.specs.RowStrings.{IsString}
 use Rattle.text_docs.specs.Rows.{AreRows, AreRowsAt, IsTail, opening}
+use Rattle.text_docs.specs.RowsCompact.{CompactRow, IsCompactRow, entries, in_quotes, rows_text}
 use Rattle.lang_core.proofs.Basics.{less_of as less_is}
 use Rattle.cell_core.proofs.Basics.{first_part, is_greater as greater_is}
 use Rattle.cell_core.proofs.ChunkLemmas.{map_back}
 use Rattle.docs_core.proofs.JoinedRowsLemmas.{all_after}
 use Rattle.text_docs.proofs.RowBorderLemmas.{IsBorder, IsCut, byte_44, byte_58, closed_row, comma}
 use Rattle.text_docs.proofs.RowBorderLemmas.{cut_rows, fit_rows, found_outside, kind_unfit}
-use Rattle.text_docs.proofs.RowBorderLemmas.{row_unfit}
+use Rattle.text_docs.proofs.RowBorderLemmas.{row_before, row_unfit}
 use Rattle.text_docs.proofs.RowBorderLemmas.{rows_step, skip}
 use Rattle.text_docs.proofs.ListLemmas.{All-back, head_or, tail_of}
-use Rattle.text_docs.proofs.IdOrderLemmas.{IsIdByte}
-use Rattle.text_docs.proofs.RowStates.{digit_is, no_letter}
 use Rattle.text_docs.proofs.RowStates.{Fit, Piece, append, closed, decimal_piece, each, fit-append}
 use Rattle.text_docs.proofs.RowStates.{fits}
 use Rattle.text_docs.proofs.RowStates.{inside, outside, quoted_piece}
+use Rattle.text_docs.proofs.RowStringsLemmas.{string_unclosed}
 
 -- ---- the text as a whole
 
@@ -112,34 +108,35 @@ cut_tail tail left is cut =
 -- ---- places
 
 -- where a bracket with a comma after it fits no string, rows end
-pub border_at : (text : List ℕ) (cells : Entries) (tail : List ℕ) (place : ℕ)
-    (left more : List ℕ) → AreRows text cells tail → drop place text ≡ 93 ∷ left
+pub border_at : (text : List ℕ) (rows : List CompactRow) (tail : List ℕ) (place : ℕ)
+    (left more : List ℕ) → AreRows text rows tail → drop place text ≡ 93 ∷ left
     → left ≡ 44 ∷ more → (Fit inside (93 ∷ left) → ⊥)
-    → IsBorder cells tail left ⊎ (93 ∷ left ≡ tail)
-border_at text cells tail place left more rows here is unfit =
-    let items = open_items false (cells_values cells) ++ tail in
+    → IsBorder rows tail left ⊎ (93 ∷ left ≡ tail)
+border_at text rows tail place left more are here is unfit =
+    let items = rows_text false rows ++ tail in
     let cut_text : take place text ++ 93 ∷ left ≡ opening ++ items =
-    ap (λ bs. take place text ++ bs) (sym here) ∙ take-append-drop place text ∙ rows.whole in
+    ap (λ bs. take place text ++ bs) (sym here) ∙ take-append-drop place text ∙ are.whole in
     let fit : Fit outside (opening ++ items) =
     fit-append outside outside opening items opening_piece
-    (fit_rows false cells tail rows.kept.each (fit_tail tail rows.is_tail)) in
+    (fit_rows false rows tail are.each are.kept.each (fit_tail tail are.is_tail)) in
     let cut : IsCut outside items left =
     skip outside outside opening items left opening_piece
     (subst (λ (bs : List ℕ). IsCut outside bs left) cut_text
     (found_outside outside (take place text) left unfit
     (subst (λ (bs : List ℕ). each fits outside bs ≡ true) (sym cut_text) fit))) in
-    ⊎_elim (λ border. inl border) (λ past. inr (cut_tail tail left rows.is_tail past))
-    (cut_rows false cells tail left more rows.kept.each is cut)
+    ⊎_elim (λ border. inl border) (λ past. inr (cut_tail tail left are.is_tail past))
+    (cut_rows false rows tail left more are.each are.kept.each is cut)
 
 -- the row that reads at a place, among all rows
-pub record IsRowOf (text id : List ℕ) (cells : Entries) (tail : List ℕ) (place : ℕ) : Type 0 where
-  pub before : Entries
-  pub entry : Entry
-  pub after : Entries
-  pub cells_are : cells ≡ before ++ entry ∷ after
-  pub comma_is : drop (place + 1) text ≡ open_items true (cells_values (entry ∷ after)) ++ tail
-  pub row_is : drop (place + 2) text ≡ open_items false (cells_values (entry ∷ after)) ++ tail
-  pub id_is : id ≡ escape entry.0.0
+pub record IsRowOf (text id : List ℕ) (rows : List CompactRow) (tail : List ℕ) (place : ℕ)
+    : Type 0 where
+  pub before : List CompactRow
+  pub row : CompactRow
+  pub after : List CompactRow
+  pub rows_are : rows ≡ before ++ row ∷ after
+  pub comma_is : drop (place + 1) text ≡ rows_text true (row ∷ after) ++ tail
+  pub row_is : drop (place + 2) text ≡ rows_text false (row ∷ after) ++ tail
+  pub id_is : id ≡ row.id
 
 quote_closes : (y : ℕ) (ys : List ℕ) → is_unclosed_from false (y ∷ ys) ≡ true → y ≡ 34 → ⊥
 quote_closes y ys goes is =
@@ -174,43 +171,6 @@ one_string false (x ∷ xs) (y ∷ ys) left more p q is =
     (subst (λ (z : ℕ). is_unclosed_from (z == 92) ys ≡ true) (sym same) (goes_on y ys q))
     (ap tail_of is))
 
-plain_unclosed : (b : ℕ) (more : List ℕ) → (b == 34) ≡ false → (b == 92) ≡ false
-    → is_unclosed (b ∷ more) ≡ is_unclosed more
-plain_unclosed b more quote backslash =
-    ap (λ t. cond t false (is_unclosed_from (b == 92) more)) quote
-    ∙ ap (λ t. is_unclosed_from t more) backslash
-
--- what is written for a byte of a string does not end it
-escape_byte_unclosed : (b : ℕ) (more : List ℕ)
-    → is_unclosed (escape_byte b ++ more) ≡ is_unclosed more
-unfolding escape_byte
-escape_byte_unclosed b more =
-    let high = digit_char (b / 16) in
-    let low = digit_char (b % 16) in
-    elim (nat_lt 0 (escape_letter b)) as (λ t. nat_lt 0 (escape_letter b) ≡ t
-    → is_unclosed (cond t (92 ∷ escape_letter b ∷ [])
-    (cond (nat_lt b 32) (92 ∷ 117 ∷ 48 ∷ 48 ∷ high ∷ low ∷ []) (b ∷ [])) ++ more)
-    ≡ is_unclosed more) [
-      | true ↦ λ letter. refl
-      | false ↦ λ plain. elim (nat_lt b 32) as (λ t. nat_lt b 32 ≡ t
-          → is_unclosed (cond t (92 ∷ 117 ∷ 48 ∷ 48 ∷ high ∷ low ∷ []) (b ∷ []) ++ more)
-          ≡ is_unclosed more) [
-            | true ↦ λ control.
-                let less : b < 32 = grind (arith, nat_tests) in
-                plain_unclosed high (low ∷ more) (digit_is (b / 16) (omega arith) 34 refl)
-                (digit_is (b / 16) (omega arith) 92 refl)
-                ∙ plain_unclosed low more (digit_is (b % 16) (omega arith) 34 refl)
-                (digit_is (b % 16) (omega arith) 92 refl)
-            | false ↦ λ shown.
-                plain_unclosed b more (no_letter b plain).0 (no_letter b plain).1
-          ] refl
-    ] refl
-
--- what is written for a string has no quote that ends it
-pub escape_unclosed : (text : List ℕ) → is_unclosed (escape text) ≡ true
-escape_unclosed [] = refl
-escape_unclosed (b ∷ text) = escape_byte_unclosed b (escape text) ∙ escape_unclosed text
-
 -- after a comma and a bracket come no members of the document
 no_members : (more tail : List ℕ) → IsTail tail → 93 ∷ 44 ∷ 91 ∷ more ≡ tail → ⊥
 no_members more tail is same =
@@ -230,10 +190,10 @@ pub drop_more : (n k : ℕ) (text bs : List ℕ) → drop n text ≡ bs → drop
 drop_more n k text bs is = sym (drop-drop k n text) ∙ ap (drop k) is
 
 -- what reads as a row is one
-pub row_of_place : (text id : List ℕ) (cells : Entries) (tail : List ℕ) (place : ℕ)
-    → AreRows text cells tail → ReadsAsRow (drop place text) id
-    → IsRowOf text id cells tail place
-row_of_place text id cells tail place rows reads =
+pub row_of_place : (text id : List ℕ) (rows : List CompactRow) (tail : List ℕ) (place : ℕ)
+    → AreRows text rows tail → ReadsAsRow (drop place text) id
+    → IsRowOf text id rows tail place
+row_of_place text id rows tail place are reads =
     let rest = id ++ 34 ∷ 44 ∷ 34 ∷ reads.first ∷ reads.rest in
     let left = 44 ∷ 91 ∷ 34 ∷ rest in
     let own : ReadsAsRow (93 ∷ left) id = record {
@@ -244,56 +204,62 @@ row_of_place text id cells tail place rows reads =
       language = reads.language;
     } in
     ⊎_elim
-    (λ border. row_of_border border.before border.after border.entries_are border.left_is)
-    (λ same. absurd (no_members (34 ∷ rest) tail rows.is_tail same))
-    (border_at text cells tail place left (91 ∷ 34 ∷ rest) rows reads.text_is refl
+    (λ border. row_of_border border.before border.after border.rows_are border.left_is)
+    (λ same. absurd (no_members (34 ∷ rest) tail are.is_tail same))
+    (border_at text rows tail place left (91 ∷ 34 ∷ rest) are reads.text_is refl
     (row_unfit left id own))
   where
-    row_of_border : (before after : Entries) → cells ≡ before ++ after
+    row_of_border : (before after : List CompactRow) → rows ≡ before ++ after
         → 44 ∷ 91 ∷ 34 ∷ (id ++ 34 ∷ 44 ∷ 34 ∷ reads.first ∷ reads.rest)
-        ≡ open_items true (cells_values after) ++ tail
-        → IsRowOf text id cells tail place
+        ≡ rows_text true after ++ tail
+        → IsRowOf text id rows tail place
     row_of_border before [] whole is =
         absurd (no_tail (91 ∷ 34 ∷ (id ++ 34 ∷ 44 ∷ 34 ∷ reads.first ∷ reads.rest)) tail
-        rows.is_tail is)
-    row_of_border before (e ∷ after) whole is =
-        let last = closed_row e.1.label (open_items true (cells_values after) ++ tail) in
-        let row = row_before (row_of e) last in
+        are.is_tail is)
+    row_of_border before (row ∷ after) whole is =
+        let last = closed_row row.label (rows_text true after ++ tail) in
         let rest = id ++ 34 ∷ 44 ∷ 34 ∷ reads.first ∷ reads.rest in
-        let written : 44 ∷ 91 ∷ 34 ∷ rest ≡ 44 ∷ row = is ∙ rows_step true e after tail in
-        let stamp = decimal e.1.stamp.time ++ 44 ∷ (quoted e.1.stamp.site
-        ++ 44 ∷ (decimal e.1.stamp.count ++ 44 ∷ last)) in
-        let strings : rest ≡ (escape e.0.0 ++ 34 ∷ []) ++ 44 ∷ (quoted e.0.1 ++ 44 ∷ stamp) =
-        ap (λ bs. tail_of (tail_of (tail_of bs))) written in record {
+        let written : 44 ∷ 91 ∷ 34 ∷ rest ≡ 44 ∷ row_before row last =
+        is ∙ rows_step true row after tail in
+        let stamp = decimal row.entry.1.stamp.time ++ 44 ∷ (in_quotes row.site
+        ++ 44 ∷ (decimal row.entry.1.stamp.count ++ 44 ∷ last)) in
+        let strings : rest
+        ≡ (row.id ++ 34 ∷ []) ++ 44 ∷ (in_quotes row.language ++ 44 ∷ stamp) =
+        ap (λ bs. tail_of (tail_of (tail_of bs))) written in
+        let one =
+        All-head IsCompactRow row after
+        (All-back IsCompactRow before (row ∷ after)
+        (subst (λ (rs : List CompactRow). All IsCompactRow rs) whole are.each)) in record {
           before = before;
-          entry = e;
+          row = row;
           after = after;
-          cells_are = whole;
+          rows_are = whole;
           comma_is = drop_more place 1 text _ reads.text_is ∙ is;
           row_is =
               drop_more place 2 text _ reads.text_is ∙ ap tail_of written
-              ∙ sym (rows_step false e after tail);
-          id_is = one_string false id (escape e.0.0) _ _ reads.unclosed (escape_unclosed e.0.0)
-              (strings ∙ append_assoc (escape e.0.0) (34 ∷ []) _);
+              ∙ sym (rows_step false row after tail);
+          id_is = one_string false id row.id _ _ reads.unclosed
+              (string_unclosed row.id row.entry.0.0 one.id)
+              (strings ∙ append_assoc row.id (34 ∷ []) _);
         }
 
 -- what begins as the member `kind` comes after all rows
-pub members_at : (text : List ℕ) (cells : Entries) (tail : List ℕ) (place : ℕ) (rest : List ℕ)
-    → AreRows text cells tail → drop place text ≡ 93 ∷ 44 ∷ 34 ∷ 107 ∷ rest
+pub members_at : (text : List ℕ) (rows : List CompactRow) (tail : List ℕ) (place : ℕ)
+    (rest : List ℕ)
+    → AreRows text rows tail → drop place text ≡ 93 ∷ 44 ∷ 34 ∷ 107 ∷ rest
     → drop place text ≡ tail
-members_at text cells tail place rest rows is =
+members_at text rows tail place rest are is =
     ⊎_elim (λ border. absurd (no_row border.after border.left_is)) (λ same. is ∙ same)
-    (border_at text cells tail place (44 ∷ 34 ∷ 107 ∷ rest) (34 ∷ 107 ∷ rest) rows is refl
+    (border_at text rows tail place (44 ∷ 34 ∷ 107 ∷ rest) (34 ∷ 107 ∷ rest) are is refl
     (kind_unfit (44 ∷ 34 ∷ 107 ∷ rest) rest refl))
   where
     by : ◌≡◌ {A = ℕ} 34 91 → ⊥
     by e = omega (arith, e)
 
-    no_row : (after : Entries) → 44 ∷ 34 ∷ 107 ∷ rest ≡ open_items true (cells_values after) ++ tail
-        → ⊥
-    no_row [] same = no_tail (34 ∷ 107 ∷ rest) tail rows.is_tail same
-    no_row (e ∷ after) same =
-        by (ap (λ bs. head_or 0 (tail_of bs)) (same ∙ rows_step true e after tail))
+    no_row : (after : List CompactRow) → 44 ∷ 34 ∷ 107 ∷ rest ≡ rows_text true after ++ tail → ⊥
+    no_row [] same = no_tail (34 ∷ 107 ∷ rest) tail are.is_tail same
+    no_row (row ∷ after) same =
+        by (ap (λ bs. head_or 0 (tail_of bs)) (same ∙ rows_step true row after tail))
 
 -- ---- keys
 
@@ -324,90 +290,117 @@ greater_id a b id below greater =
     by Equal is h = subst (λ (t : List ℕ). text_cmp id t ≡ Less) (exact_bytes a.0 b.0 is) less
     by Greater is h = cc
 
+-- what holds of the entries of rows holds of the rows
+pub of_entries : (P : Entry → Type 0) (rows : List CompactRow) → All P (entries rows)
+    → All (λ (row : CompactRow). P row.entry) rows
+of_entries P [] all = All-nil (λ (row : CompactRow). P row.entry)
+of_entries P (row ∷ rows) all =
+    All-cons (λ (r : CompactRow). P r.entry) row rows (All-head P row.entry (entries rows) all)
+    (of_entries P rows (All-tail P row.entry (entries rows) all))
+
+-- the entries of rows around one
+pub entries_around : (before : List CompactRow) (row : CompactRow) (after : List CompactRow)
+    → entries (before ++ row ∷ after) ≡ entries before ++ row.entry ∷ entries after
+entries_around before row after = map-append (λ (r : CompactRow). r.entry) before (row ∷ after)
+
+map_around : (rows before : List CompactRow) (row : CompactRow) (after : List CompactRow)
+    → rows ≡ before ++ row ∷ after → IsMap key_cmp (entries rows)
+    → IsMap key_cmp (entries before ++ row.entry ∷ entries after)
+map_around rows before row after is map =
+    subst (λ (es : Entries). IsMap key_cmp es)
+    (ap entries is ∙ entries_around before row after) map
+
 -- a row of a lesser id: no row before it is of the message
-pub begins_at_row : (text written id : List ℕ) (cells : Entries) (tail : List ℕ) (place : ℕ)
-    → AreRows text cells tail → (row : IsRowOf text written cells tail place)
-    → text_cmp row.entry.0.0 id ≡ Less → BeginsAt id (drop (place + 2) text) cells tail
-begins_at_row text written id cells tail place rows row less = record {
-  before = row.before;
-  after = row.entry ∷ row.after;
-  cells_are = row.cells_are;
-  rest_is = row.row_is;
-  others =
-      All-weaker (λ (e : Entry). key_cmp e.0 row.entry.0 ≡ Less)
-      (λ (e : Entry). text_cmp e.0.0 id ≡ Less)
-      (λ e below. less_id e.0 row.entry.0 id below less) row.before
-      (front_below row.before row.after row.entry.0 row.entry.1
-      (subst (λ (es : Entries). IsMap key_cmp es) row.cells_are rows.kept.map));
-}
+pub begins_at_row : (text written id : List ℕ) (rows : List CompactRow) (tail : List ℕ) (place : ℕ)
+    → AreRows text rows tail → (at : IsRowOf text written rows tail place)
+    → text_cmp at.row.entry.0.0 id ≡ Less → BeginsAt id (drop (place + 2) text) rows tail
+begins_at_row text written id rows tail place are at less =
+    let key = at.row.entry.0 in record {
+      before = at.before;
+      after = at.row ∷ at.after;
+      rows_are = at.rows_are;
+      rest_is = at.row_is;
+      others =
+          of_entries (λ (e : Entry). text_cmp e.0.0 id ≡ Less) at.before
+          (All-weaker (λ (e : Entry). key_cmp e.0 key ≡ Less)
+          (λ (e : Entry). text_cmp e.0.0 id ≡ Less)
+          (λ e below. less_id e.0 key id below less) (entries at.before)
+          (front_below (entries at.before) (entries at.after) key at.row.entry.1
+          (map_around rows at.before at.row at.after at.rows_are are.kept.map)));
+    }
 
 -- a row of a greater id: it and no row after it is of the message
-pub ends_at_row : (text written id : List ℕ) (cells : Entries) (tail : List ℕ) (place : ℕ)
-    → AreRows text cells tail → (row : IsRowOf text written cells tail place)
-    → text_cmp row.entry.0.0 id ≡ Greater → EndsAt id (drop (place + 1) text) cells tail
-ends_at_row text written id cells tail place rows row greater =
+pub ends_at_row : (text written id : List ℕ) (rows : List CompactRow) (tail : List ℕ) (place : ℕ)
+    → AreRows text rows tail → (at : IsRowOf text written rows tail place)
+    → text_cmp at.row.entry.0.0 id ≡ Greater → EndsAt id (drop (place + 1) text) rows tail
+ends_at_row text written id rows tail place are at greater =
+    let key = at.row.entry.0 in
+    let others = entries at.after in
     let map =
-    map_back key_cmp row.before (row.entry ∷ row.after)
-    (subst (λ (es : Entries). IsMap key_cmp es) row.cells_are rows.kept.map) in record {
-      before = row.before;
-      after = row.entry ∷ row.after;
-      cells_are = row.cells_are;
-      rest_is = row.comma_is;
+    map_back key_cmp (entries at.before) (at.row.entry ∷ others)
+    (map_around rows at.before at.row at.after at.rows_are are.kept.map) in record {
+      before = at.before;
+      after = at.row ∷ at.after;
+      rows_are = at.rows_are;
+      rest_is = at.comma_is;
       others =
-          All-cons (λ (e : Entry). text_cmp e.0.0 id ≡ Greater) row.entry row.after greater
-          (All-weaker (λ (e : Entry). key_cmp row.entry.0 e.0 ≡ Less)
+          of_entries (λ (e : Entry). text_cmp e.0.0 id ≡ Greater) (at.row ∷ at.after)
+          (All-cons (λ (e : Entry). text_cmp e.0.0 id ≡ Greater) at.row.entry others greater
+          (All-weaker (λ (e : Entry). key_cmp key e.0 ≡ Less)
           (λ (e : Entry). text_cmp e.0.0 id ≡ Greater)
-          (λ e above. greater_id row.entry.0 e.0 id above greater) row.after
-          (all_after row.entry.0 row.after
-          (first_part (below_all key_cmp row.entry.0 row.after) (is_sorted key_cmp row.after)
-          map)));
+          (λ e above. greater_id key e.0 id above greater) others
+          (all_after key others
+          (first_part (below_all key_cmp key others) (is_sorted key_cmp others) map))));
     }
 
 -- ---- what the order of ids tells
 
--- the ids of the cells are of bytes of an id
-row_id : (text written : List ℕ) (cells : Entries) (tail : List ℕ) (place : ℕ)
-    → AreRows text cells tail → (row : IsRowOf text written cells tail place)
-    → All IsIdByte row.entry.0.0
-row_id text written cells tail place rows row =
-    (All-head IsKeptCell row.entry row.after
-    (All-back IsKeptCell row.before (row.entry ∷ row.after)
-    (subst (λ (es : Entries). All IsKeptCell es) row.cells_are rows.kept.each))).0.id.bytes
+-- the id of the row is written so
+row_id : (text written : List ℕ) (rows : List CompactRow) (tail : List ℕ) (place : ℕ)
+    → AreRows text rows tail → (at : IsRowOf text written rows tail place)
+    → IsString written at.row.entry.0.0
+row_id text written rows tail place are at =
+    subst (λ (bs : List ℕ). IsString bs at.row.entry.0.0) (sym at.id_is)
+    (All-head IsCompactRow at.row at.after
+    (All-back IsCompactRow at.before (at.row ∷ at.after)
+    (subst (λ (rs : List CompactRow). All IsCompactRow rs) at.rows_are are.each))).id
 
--- how a written id is ordered to another
+-- how an id that is written without other escapes is ordered to another
 abbrev pub IsOrder : List ℕ → List ℕ → Ordering → Type 0
-IsOrder written id order = (text : List ℕ) → All IsIdByte text → written ≡ escape text
+IsOrder written id order = (text : List ℕ) → IsString written text → is_simple written ≡ true
     → order ≡ text_cmp text id
 
 -- no row before one of a lesser id is of the message
 pub begins_at_lesser : (text written id : List ℕ) (place : ℕ) (order : Ordering)
-    → ReadsAsRow (drop place text) written → IsOrder written id order → is_lt order ≡ true
+    → ReadsAsRow (drop place text) written → is_simple written ≡ true → IsOrder written id order
+    → is_lt order ≡ true
     → BeginsBefore text id (place + 2)
-begins_at_lesser text written id place order reads is less = λ cells tail rows.
-    let row = row_of_place text written cells tail place rows reads in
-    begins_at_row text written id cells tail place rows row
-    (sym (is row.entry.0.0 (row_id text written cells tail place rows row) row.id_is)
+begins_at_lesser text written id place order reads simple is less = λ rows tail are.
+    let at = row_of_place text written rows tail place are reads in
+    begins_at_row text written id rows tail place are at
+    (sym (is at.row.entry.0.0 (row_id text written rows tail place are at) simple)
     ∙ less_is order less)
 
 -- no row after the start of one of a greater id is of the message
 pub ends_at_greater : (text written id : List ℕ) (place : ℕ) (order : Ordering)
-    → ReadsAsRow (drop place text) written → IsOrder written id order → is_gt order ≡ true
+    → ReadsAsRow (drop place text) written → is_simple written ≡ true → IsOrder written id order
+    → is_gt order ≡ true
     → EndsAfter text id (place + 1)
-ends_at_greater text written id place order reads is greater = λ cells tail rows.
-    let row = row_of_place text written cells tail place rows reads in
-    ends_at_row text written id cells tail place rows row
-    (sym (is row.entry.0.0 (row_id text written cells tail place rows row) row.id_is)
+ends_at_greater text written id place order reads simple is greater = λ rows tail are.
+    let at = row_of_place text written rows tail place are reads in
+    ends_at_row text written id rows tail place are at
+    (sym (is at.row.entry.0.0 (row_id text written rows tail place are at) simple)
     ∙ greater_is order greater)
 
 -- no row is after all rows
 pub ends_at_last : (text id : List ℕ) (start end : ℕ) → AreRowsAt text start end
     → EndsAfter text id end
-ends_at_last text id start end at = λ cells tail rows. record {
-  before = cells;
+ends_at_last text id start end at = λ rows tail are. record {
+  before = rows;
   after = [];
-  cells_are = sym (append-nil cells);
-  rest_is = at.finish cells tail rows;
-  others = All-nil (λ (e : Entry). text_cmp e.0.0 id ≡ Greater);
+  rows_are = sym (append-nil rows);
+  rest_is = at.finish rows tail are;
+  others = All-nil (λ (row : CompactRow). text_cmp row.entry.0.0 id ≡ Greater);
 }
 
 opening_length : length opening ≡ 10
@@ -420,7 +413,7 @@ pub rows_at : (text rest : List ℕ) (end : ℕ) → 10 ≤ end
 rows_at text rest end ordered is = record {
   ordered = ordered;
   within = omega (arith, length-drop end text, ap length is);
-  begin = λ cells tail rows. ap (drop 10) rows.whole
-      ∙ drop_at opening (open_items false (cells_values cells) ++ tail) 10 opening_length;
-  finish = λ cells tail rows. members_at text cells tail end rest rows is;
+  begin = λ rows tail are. ap (drop 10) are.whole
+      ∙ drop_at opening (rows_text false rows ++ tail) 10 opening_length;
+  finish = λ rows tail are. members_at text rows tail end rest are is;
 }

@@ -1,32 +1,26 @@
--- A place of a written document that reads as the start of a row is one, after the `]` of a row: in
--- a row no `]` outside of strings comes before a comma, and no string has a language after it.
+-- A place of a document that reads as the start of a row is one, after the `]` of a row: in a row
+-- no `]` outside of strings comes before a comma, and no string has a language after it.
 use Rattle.std.proofs.Common.{◌≡◌, ◌∙◌, ◌^◌, ◌<◌, ◌++◌, ◌∷◌, [], ℕ, List, Bool, true, false}
 use Rattle.std.proofs.Common.{cond, not}
 use Rattle.std.proofs.Common.{◌==◌, ◌⊎◌, inl, inr, ⊎_elim, refl, ap, sym, subst, arith}
-use Rattle.std.proofs.Common.{append_assoc, decimal, true≢false, map}
+use Rattle.std.proofs.Common.{append_assoc, decimal, true≢false}
 use Rattle.std.specs.Prelude.{None, Option, Some}
 use Rattle.std.proofs.lemmas.Bool.Decides.{nat_tests}
 use Rattle.std.proofs.lemmas.List.Elements.{All-head, All-tail}
-use Rattle.json.specs.Print.{quoted}
-use Rattle.serde_json.specs.Data.{Data, array, string}
-use Rattle.serde_json.specs.View.{items_of}
-use Rattle.serde_json.specs.Written.{comma_if, compact_text}
-use Rattle.catalogue.specs.Entries.{Entries, Entry}
+use Rattle.serde_json.specs.Written.{comma_if}
 use Rattle.lang_core.proofs.Basics.{true_not}
 use Rattle.catalogue.proofs.Basics.{first_so, second_so}
-use Rattle.row_docs.specs.Entries.{cells_values, entry_value, row_of}
 use Rattle.row_docs.specs.EntriesValid.{IsKeptCell}
-use Rattle.row_docs.specs.EntriesValues.{Row, label_value}
-use Rattle.site_docs.specs.Plain.{open_items}
-use Rattle.site_docs.specs.PlainRows.{row_before}
-use Rattle.site_docs.proofs.PlainLemmas.{array_taken, row_taken}
 use Rattle.std.specs.List.{All}
 use Rattle.text_docs.specs.Row.{ReadsAsRow, begins_language, is_unclosed, is_unclosed_from}
+use Rattle.text_docs.specs.RowStrings.{IsString}
+use Rattle.text_docs.specs.RowsCompact.{AreLabelStrings, AreStrings, CompactRow, IsCompactRow}
+use Rattle.text_docs.specs.RowsCompact.{entries, in_quotes, label_text, rows_text, strings_text}
 use Rattle.text_docs.proofs.ListLemmas.{head_or}
 use Rattle.text_docs.proofs.RowStates.{Fit, Piece, State, append, closed, decimal_piece, each}
 use Rattle.text_docs.proofs.RowStates.{escaped}
-use Rattle.text_docs.proofs.RowStates.{fit-append, fits, inside, is_free, outside, quoted_piece}
-use Rattle.text_docs.proofs.RowStates.{step}
+use Rattle.text_docs.proofs.RowStates.{fit-append, fits, inside, is_free, outside, step}
+use Rattle.text_docs.proofs.RowStringsLemmas.{string_piece}
 
 -- ---- brackets outside of strings
 
@@ -149,43 +143,59 @@ open_bracket = record { fit = refl; free = refl; end = refl }
 null_piece : Piece outside outside (110 ∷ 117 ∷ 108 ∷ 108 ∷ [])
 null_piece = record { fit = refl; free = refl; end = refl }
 
--- the texts of a label after the first
-texts_piece : (texts : List (List ℕ)) → Piece closed closed (open_items true (map string texts))
-texts_piece [] = record { fit = refl; free = refl; end = refl }
-texts_piece (t ∷ texts) =
-    append closed outside closed (44 ∷ []) (quoted t ++ open_items true (map string texts)) byte_44
-    (append outside closed closed (quoted t) (open_items true (map string texts)) (quoted_piece t)
-    (texts_piece texts))
+-- a string with its quotes
+pub in_quotes_piece : (written text : List ℕ) → IsString written text
+    → Piece outside closed (in_quotes written)
+in_quotes_piece written text is =
+    append outside inside closed (34 ∷ []) (written ++ 34 ∷ [])
+    (record { fit = refl; free = refl; end = refl })
+    (append inside inside closed written (34 ∷ []) (string_piece written text is)
+    (record { fit = refl; free = refl; end = refl }))
+
+-- the strings of a label after the first
+strings_piece : (strings texts : List (List ℕ)) → AreStrings strings texts
+    → Piece closed closed (strings_text true strings)
+strings_piece [] [] are = record { fit = refl; free = refl; end = refl }
+strings_piece [] (t ∷ texts) are = absurd are
+strings_piece (w ∷ strings) [] are = absurd are
+strings_piece (w ∷ strings) (t ∷ texts) are =
+    append closed outside closed (44 ∷ []) (in_quotes w ++ strings_text true strings) byte_44
+    (append outside closed closed (in_quotes w) (strings_text true strings)
+    (in_quotes_piece w t are.0) (strings_piece strings texts are.1))
+
+first_strings : (w t : List ℕ) (strings texts : List (List ℕ)) → IsString w t
+    → AreStrings strings texts → Piece outside closed (strings_text false (w ∷ strings))
+first_strings w t strings texts one are =
+    append outside closed closed (in_quotes w) (strings_text true strings) (in_quotes_piece w t one)
+    (strings_piece strings texts are)
 
 -- a label with the bracket of its row, and what comes after
 abbrev pub closed_row : Option (List (List ℕ)) → List ℕ → List ℕ
-closed_row label left = compact_text (label_value label) ++ 93 ∷ left
+closed_row label left = label_text label ++ 93 ∷ left
 
--- the array of a label's texts
-pub array_is : (ds : List Data) (left : List ℕ)
-    → compact_text (array (items_of ds)) ++ left ≡ 91 ∷ (open_items false ds ++ 93 ∷ left)
-array_is ds left =
-    sym (array_taken ds (91 ∷ (open_items false ds ++ 93 ∷ left)) (93 ∷ left) left refl refl)
+-- the array of a label
+pub array_is : (strings : List (List ℕ)) (left : List ℕ)
+    → label_text (Some strings) ++ left ≡ 91 ∷ (strings_text false strings ++ 93 ∷ left)
+array_is strings left =
+    ap (λ bs. 91 ∷ bs) (append_assoc (strings_text false strings) (93 ∷ []) left)
 
-first_texts : (t : List ℕ) (texts : List (List ℕ))
-    → Piece outside closed (open_items false (map string (t ∷ texts)))
-first_texts t texts =
-    append outside closed closed (quoted t) (open_items true (map string texts)) (quoted_piece t)
-    (texts_piece texts)
-
-fit_label : (label : Option (List (List ℕ))) (left : List ℕ) → Fit outside left
-    → Fit outside (closed_row label left)
-fit_label None left fit =
+fit_label : (strings label : Option (List (List ℕ))) (left : List ℕ)
+    → AreLabelStrings strings label → Fit outside left → Fit outside (closed_row strings left)
+fit_label None None left are fit =
     fit-append outside outside (110 ∷ 117 ∷ 108 ∷ 108 ∷ []) (93 ∷ left) null_piece fit
-fit_label (Some []) left fit =
+fit_label None (Some texts) left are fit = absurd are
+fit_label (Some strings) None left are fit = absurd are
+fit_label (Some []) (Some []) left are fit =
     subst (λ (bs : List ℕ). each fits outside bs ≡ true) (sym (array_is [] (93 ∷ left))) fit
-fit_label (Some (t ∷ texts)) left fit =
+fit_label (Some []) (Some (t ∷ texts)) left are fit = absurd are
+fit_label (Some (w ∷ strings)) (Some []) left are fit = absurd are
+fit_label (Some (w ∷ strings)) (Some (t ∷ texts)) left are fit =
     subst (λ (bs : List ℕ). each fits outside bs ≡ true)
-    (sym (array_is (map string (t ∷ texts)) (93 ∷ left)))
+    (sym (array_is (w ∷ strings) (93 ∷ left)))
     (fit-append outside outside (91 ∷ [])
-    (open_items false (map string (t ∷ texts)) ++ 93 ∷ 93 ∷ left) open_bracket
-    (fit-append outside closed (open_items false (map string (t ∷ texts))) (93 ∷ 93 ∷ left)
-    (first_texts t texts) fit))
+    (strings_text false (w ∷ strings) ++ 93 ∷ 93 ∷ left) open_bracket
+    (fit-append outside closed (strings_text false (w ∷ strings)) (93 ∷ 93 ∷ left)
+    (first_strings w t strings texts are.0 are.1) fit))
 
 -- a `]` with a comma after it is that of the row
 at_end : (left tail : List ℕ) → IsCut outside (93 ∷ left) tail
@@ -214,82 +224,98 @@ at_end_of_texts escaped left tail more next is (inl here) = absurd here
 at_end_of_texts escaped left tail more next is (inr later) =
     at_end left tail (subst (λ (s : State). IsCut s (93 ∷ left) tail) next later)
 
-cut_label : (label : Option (List (List ℕ))) (left tail more : List ℕ) → tail ≡ 44 ∷ more
-    → IsCut outside (closed_row label left) tail → (left ≡ tail) ⊎ IsCut outside left tail
-cut_label None left tail more is cut =
+cut_label : (strings label : Option (List (List ℕ))) (left tail more : List ℕ)
+    → AreLabelStrings strings label → tail ≡ 44 ∷ more
+    → IsCut outside (closed_row strings left) tail → (left ≡ tail) ⊎ IsCut outside left tail
+cut_label None None left tail more are is cut =
     at_end left tail
     (skip outside outside (110 ∷ 117 ∷ 108 ∷ 108 ∷ []) (93 ∷ left) tail null_piece cut)
-cut_label (Some []) left tail more is cut =
+cut_label None (Some texts) left tail more are is cut = absurd are
+cut_label (Some strings) None left tail more are is cut = absurd are
+cut_label (Some []) (Some []) left tail more are is cut =
     at_end_of_texts outside left tail more refl is
     (skip outside outside (91 ∷ []) (93 ∷ 93 ∷ left) tail open_bracket
     (subst (λ (bs : List ℕ). IsCut outside bs tail) (array_is [] (93 ∷ left)) cut))
-cut_label (Some (t ∷ texts)) left tail more is cut =
-    let items = open_items false (map string (t ∷ texts)) in
+cut_label (Some []) (Some (t ∷ texts)) left tail more are is cut = absurd are
+cut_label (Some (w ∷ strings)) (Some []) left tail more are is cut = absurd are
+cut_label (Some (w ∷ strings)) (Some (t ∷ texts)) left tail more are is cut =
+    let items = strings_text false (w ∷ strings) in
     at_end_of_texts closed left tail more refl is
-    (skip outside closed items (93 ∷ 93 ∷ left) tail (first_texts t texts)
+    (skip outside closed items (93 ∷ 93 ∷ left) tail (first_strings w t strings texts are.0 are.1)
     (skip outside outside (91 ∷ []) (items ++ 93 ∷ 93 ∷ left) tail open_bracket
     (subst (λ (bs : List ℕ). IsCut outside bs tail)
-    (array_is (map string (t ∷ texts)) (93 ∷ left)) cut)))
+    (array_is (w ∷ strings) (93 ∷ left)) cut)))
 
 -- ---- a row
 
-fit_front : (row : Row) (left : List ℕ) → row.time < 2 ^ 64 → row.count < 2 ^ 64
+-- a row as far as its label, and what comes after
+abbrev pub row_before : CompactRow → List ℕ → List ℕ
+row_before row left =
+    91 ∷ (in_quotes row.id ++ 44 ∷
+    (in_quotes row.language ++ 44 ∷
+    (decimal row.entry.1.stamp.time ++ 44 ∷
+    (in_quotes row.site ++ 44 ∷ (decimal row.entry.1.stamp.count ++ 44 ∷ left)))))
+
+-- what fits 32 bits fits 64
+pub count_fits : (n : ℕ) → n < 2 ^ 32 → n < 2 ^ 64
+count_fits n small = omega arith
+
+fit_front : (row : CompactRow) (left : List ℕ) → IsCompactRow row → IsKeptCell row.entry
     → Fit outside left → Fit outside (row_before row left)
-fit_front row left time count fit =
-    let after_time = quoted row.site ++ 44 ∷ (decimal row.count ++ 44 ∷ left) in
-    let after_language = decimal row.time ++ 44 ∷ after_time in
-    let after_id = quoted row.language ++ 44 ∷ after_language in
-    fit-append outside outside (91 ∷ []) (quoted row.id ++ 44 ∷ after_id) open_bracket
-    (fit-append outside closed (quoted row.id) (44 ∷ after_id) (quoted_piece row.id)
+fit_front row left is kept fit =
+    let time = row.entry.1.stamp.time in
+    let count = row.entry.1.stamp.count in
+    let after_time = in_quotes row.site ++ 44 ∷ (decimal count ++ 44 ∷ left) in
+    let after_language = decimal time ++ 44 ∷ after_time in
+    let after_id = in_quotes row.language ++ 44 ∷ after_language in
+    fit-append outside outside (91 ∷ []) (in_quotes row.id ++ 44 ∷ after_id) open_bracket
+    (fit-append outside closed (in_quotes row.id) (44 ∷ after_id)
+    (in_quotes_piece row.id row.entry.0.0 is.id)
     (fit-append closed outside (44 ∷ []) after_id byte_44
-    (fit-append outside closed (quoted row.language) (44 ∷ after_language)
-    (quoted_piece row.language)
+    (fit-append outside closed (in_quotes row.language) (44 ∷ after_language)
+    (in_quotes_piece row.language row.entry.0.1 is.language)
     (fit-append closed outside (44 ∷ []) after_language byte_44
-    (fit-append outside outside (decimal row.time) (44 ∷ after_time) (decimal_piece row.time time)
+    (fit-append outside outside (decimal time) (44 ∷ after_time) (decimal_piece time kept.0.time)
     (fit-append outside outside (44 ∷ []) after_time comma
-    (fit-append outside closed (quoted row.site) (44 ∷ (decimal row.count ++ 44 ∷ left))
-    (quoted_piece row.site)
-    (fit-append closed outside (44 ∷ []) (decimal row.count ++ 44 ∷ left) byte_44
-    (fit-append outside outside (decimal row.count) (44 ∷ left) (decimal_piece row.count count)
+    (fit-append outside closed (in_quotes row.site) (44 ∷ (decimal count ++ 44 ∷ left))
+    (in_quotes_piece row.site row.entry.1.stamp.site is.site)
+    (fit-append closed outside (44 ∷ []) (decimal count ++ 44 ∷ left) byte_44
+    (fit-append outside outside (decimal count) (44 ∷ left)
+    (decimal_piece count (count_fits count kept.0.count))
     (fit-append outside outside (44 ∷ []) left comma fit))))))))))
 
-cut_front : (row : Row) (left tail : List ℕ) → row.time < 2 ^ 64 → row.count < 2 ^ 64
+cut_front : (row : CompactRow) (left tail : List ℕ) → IsCompactRow row → IsKeptCell row.entry
     → IsCut outside (row_before row left) tail → IsCut outside left tail
-cut_front row left tail time count cut =
-    let after_time = quoted row.site ++ 44 ∷ (decimal row.count ++ 44 ∷ left) in
-    let after_language = decimal row.time ++ 44 ∷ after_time in
-    let after_id = quoted row.language ++ 44 ∷ after_language in
+cut_front row left tail is kept cut =
+    let time = row.entry.1.stamp.time in
+    let count = row.entry.1.stamp.count in
+    let after_time = in_quotes row.site ++ 44 ∷ (decimal count ++ 44 ∷ left) in
+    let after_language = decimal time ++ 44 ∷ after_time in
+    let after_id = in_quotes row.language ++ 44 ∷ after_language in
     skip outside outside (44 ∷ []) left tail comma
-    (skip outside outside (decimal row.count) (44 ∷ left) tail (decimal_piece row.count count)
-    (skip closed outside (44 ∷ []) (decimal row.count ++ 44 ∷ left) tail byte_44
-    (skip outside closed (quoted row.site) (44 ∷ (decimal row.count ++ 44 ∷ left)) tail
-    (quoted_piece row.site)
+    (skip outside outside (decimal count) (44 ∷ left) tail
+    (decimal_piece count (count_fits count kept.0.count))
+    (skip closed outside (44 ∷ []) (decimal count ++ 44 ∷ left) tail byte_44
+    (skip outside closed (in_quotes row.site) (44 ∷ (decimal count ++ 44 ∷ left)) tail
+    (in_quotes_piece row.site row.entry.1.stamp.site is.site)
     (skip outside outside (44 ∷ []) after_time tail comma
-    (skip outside outside (decimal row.time) (44 ∷ after_time) tail (decimal_piece row.time time)
+    (skip outside outside (decimal time) (44 ∷ after_time) tail (decimal_piece time kept.0.time)
     (skip closed outside (44 ∷ []) after_language tail byte_44
-    (skip outside closed (quoted row.language) (44 ∷ after_language) tail
-    (quoted_piece row.language)
+    (skip outside closed (in_quotes row.language) (44 ∷ after_language) tail
+    (in_quotes_piece row.language row.entry.0.1 is.language)
     (skip closed outside (44 ∷ []) after_id tail byte_44
-    (skip outside closed (quoted row.id) (44 ∷ after_id) tail (quoted_piece row.id)
-    (skip outside outside (91 ∷ []) (quoted row.id ++ 44 ∷ after_id) tail open_bracket
+    (skip outside closed (in_quotes row.id) (44 ∷ after_id) tail
+    (in_quotes_piece row.id row.entry.0.0 is.id)
+    (skip outside outside (91 ∷ []) (in_quotes row.id ++ 44 ∷ after_id) tail open_bracket
     cut))))))))))
 
 -- ---- all rows
 
 -- the text of a row, and of those after it
-pub rows_step : (later : Bool) (e : Entry) (es : Entries) (tail : List ℕ)
-    → open_items later (cells_values (e ∷ es)) ++ tail
-    ≡ comma_if later ++ row_before (row_of e)
-    (closed_row e.1.label (open_items true (cells_values es) ++ tail))
-rows_step later e es tail =
-    append_assoc (comma_if later)
-    (compact_text (entry_value e) ++ open_items true (cells_values es)) tail
-    ∙ ap (λ r. comma_if later ++ r)
-    (append_assoc (compact_text (entry_value e)) (open_items true (cells_values es)) tail
-    ∙ sym (row_taken (row_of e) e.1.label
-    (row_before (row_of e) (closed_row e.1.label (open_items true (cells_values es) ++ tail)))
-    (closed_row e.1.label (open_items true (cells_values es) ++ tail))
-    (open_items true (cells_values es) ++ tail) refl refl))
+pub rows_step : (later : Bool) (row : CompactRow) (rows : List CompactRow) (tail : List ℕ)
+    → rows_text later (row ∷ rows) ++ tail
+    ≡ comma_if later ++ row_before row (closed_row row.label (rows_text true rows ++ tail))
+rows_step later row rows tail = simp append_assoc
 
 fit_comma : (later : Bool) (left : List ℕ) → Fit outside left
     → Fit outside (comma_if later ++ left)
@@ -301,54 +327,54 @@ cut_comma : (later : Bool) (left tail : List ℕ) → IsCut outside (comma_if la
 cut_comma true left tail cut = skip outside outside (44 ∷ []) left tail comma cut
 cut_comma false left tail cut = cut
 
-count_fits : (n : ℕ) → n < 2 ^ 32 → n < 2 ^ 64
-count_fits n small = omega arith
-
 -- rows fit where what comes after them does
-pub fit_rows : (later : Bool) (es : Entries) (tail : List ℕ) → All IsKeptCell es
-    → Fit outside tail → Fit outside (open_items later (cells_values es) ++ tail)
-fit_rows later [] tail kept fit = fit
-fit_rows later (e ∷ es) tail kept fit =
-    let left = open_items true (cells_values es) ++ tail in
-    let one = (All-head IsKeptCell e es kept).0 in
-    subst (λ (bs : List ℕ). each fits outside bs ≡ true) (sym (rows_step later e es tail))
-    (fit_comma later (row_before (row_of e) (closed_row e.1.label left))
-    (fit_front (row_of e) (closed_row e.1.label left) one.time
-    (count_fits e.1.stamp.count one.count)
-    (fit_label e.1.label left (fit_rows true es tail (All-tail IsKeptCell e es kept) fit))))
+pub fit_rows : (later : Bool) (rows : List CompactRow) (tail : List ℕ) → All IsCompactRow rows
+    → All IsKeptCell (entries rows) → Fit outside tail → Fit outside (rows_text later rows ++ tail)
+fit_rows later [] tail are kept fit = fit
+fit_rows later (row ∷ rows) tail are kept fit =
+    let left = rows_text true rows ++ tail in
+    let is = All-head IsCompactRow row rows are in
+    subst (λ (bs : List ℕ). each fits outside bs ≡ true) (sym (rows_step later row rows tail))
+    (fit_comma later (row_before row (closed_row row.label left))
+    (fit_front row (closed_row row.label left) is
+    (All-head IsKeptCell row.entry (entries rows) kept)
+    (fit_label row.label row.entry.1.label left is.label
+    (fit_rows true rows tail (All-tail IsCompactRow row rows are)
+    (All-tail IsKeptCell row.entry (entries rows) kept) fit))))
 
 -- a `]` outside of strings with a comma after it ends a row; these are the rows after it
-pub record IsBorder (es : Entries) (tail left : List ℕ) : Type 0 where
-  pub before : Entries
-  pub after : Entries
-  pub entries_are : es ≡ before ++ after
-  pub left_is : left ≡ open_items true (cells_values after) ++ tail
+pub record IsBorder (rows : List CompactRow) (tail left : List ℕ) : Type 0 where
+  pub before : List CompactRow
+  pub after : List CompactRow
+  pub rows_are : rows ≡ before ++ after
+  pub left_is : left ≡ rows_text true after ++ tail
 
-one_more : (e : Entry) (es : Entries) (tail left : List ℕ) → IsBorder es tail left
-    → IsBorder (e ∷ es) tail left
-one_more e es tail left border = record {
-  before = e ∷ border.before;
+one_more : (row : CompactRow) (rows : List CompactRow) (tail left : List ℕ)
+    → IsBorder rows tail left → IsBorder (row ∷ rows) tail left
+one_more row rows tail left border = record {
+  before = row ∷ border.before;
   after = border.after;
-  entries_are = ap (λ xs. e ∷ xs) border.entries_are;
+  rows_are = ap (λ xs. row ∷ xs) border.rows_are;
   left_is = border.left_is;
 }
 
 -- a `]` outside of strings with a comma after it ends a row, or is after all rows
-pub cut_rows : (later : Bool) (es : Entries) (tail left more : List ℕ) → All IsKeptCell es
-    → left ≡ 44 ∷ more → IsCut outside (open_items later (cells_values es) ++ tail) left
-    → IsBorder es tail left ⊎ IsCut outside tail left
-cut_rows later [] tail left more kept is cut = inr cut
-cut_rows later (e ∷ es) tail left more kept is cut =
-    let rest = open_items true (cells_values es) ++ tail in
-    let one = (All-head IsKeptCell e es kept).0 in
-    let row = row_before (row_of e) (closed_row e.1.label rest) in
-    let labelled : IsCut outside (closed_row e.1.label rest) left =
-    cut_front (row_of e) (closed_row e.1.label rest) left one.time
-    (count_fits e.1.stamp.count one.count)
-    (cut_comma later row left
-    (subst (λ (bs : List ℕ). IsCut outside bs left) (rows_step later e es tail) cut)) in
+pub cut_rows : (later : Bool) (rows : List CompactRow) (tail left more : List ℕ)
+    → All IsCompactRow rows → All IsKeptCell (entries rows) → left ≡ 44 ∷ more
+    → IsCut outside (rows_text later rows ++ tail) left
+    → IsBorder rows tail left ⊎ IsCut outside tail left
+cut_rows later [] tail left more are kept is cut = inr cut
+cut_rows later (row ∷ rows) tail left more are kept is cut =
+    let rest = rows_text true rows ++ tail in
+    let one = All-head IsCompactRow row rows are in
+    let held = All-head IsKeptCell row.entry (entries rows) kept in
+    let labelled : IsCut outside (closed_row row.label rest) left =
+    cut_front row (closed_row row.label rest) left one held
+    (cut_comma later (row_before row (closed_row row.label rest)) left
+    (subst (λ (bs : List ℕ). IsCut outside bs left) (rows_step later row rows tail) cut)) in
     ⊎_elim
-    (λ here. inl (record { before = e ∷ []; after = es; entries_are = refl; left_is = sym here }))
-    (λ later. ⊎_elim (λ border. inl (one_more e es tail left border)) (λ past. inr past)
-    (cut_rows true es tail left more (All-tail IsKeptCell e es kept) is later))
-    (cut_label e.1.label rest left more is labelled)
+    (λ here. inl (record { before = row ∷ []; after = rows; rows_are = refl; left_is = sym here }))
+    (λ later. ⊎_elim (λ border. inl (one_more row rows tail left border)) (λ past. inr past)
+    (cut_rows true rows tail left more (All-tail IsCompactRow row rows are)
+    (All-tail IsKeptCell row.entry (entries rows) kept) is later))
+    (cut_label row.label row.entry.1.label rest left more one.label is labelled)

@@ -7,6 +7,7 @@ use Rattle.std.specs.List.{All, join_with_byte, list_all}
 use Rattle.std.proofs.lemmas.Bool.Decides.{nat_tests}
 use Rattle.std.proofs.lemmas.List.Elements.{All-head}
 use Rattle.json.specs.Print.{escape, escape_byte, quoted}
+use Rattle.serde_json.specs.Written.{compact_text}
 use Rattle.lang_core.specs.Grammar.{are_allowed, is_alphanum, is_private_piece, is_run, tag_piece}
 use Rattle.lang_core.specs.Lang.{IsLang}
 use Rattle.lang_core.specs.Tag.{IsTag}
@@ -16,14 +17,18 @@ use Rattle.catalogue.specs.Entries.{Entries, Entry}
 use Rattle.catalogue.proofs.Basics.{first_so, second_so}
 use Rattle.row_docs.specs.Entries.{cells_values}
 use Rattle.row_docs.specs.EntriesValid.{IsKeptCell}
+use Rattle.row_docs.specs.EntriesValues.{label_value}
 use Rattle.row_docs.specs.declared.kind.Kind.TheVariants.{Site}
 use Rattle.site_docs.specs.Plain.{IsPlainText, last_members, open_items}
 use Rattle.text_docs.specs.Row.{ReadsAsRow, begins_language}
 use Rattle.text_docs.specs.Rows.{IsRowEnd}
-use Rattle.text_docs.proofs.RowBorderLemmas.{closed_row, rows_step}
-use Rattle.text_docs.proofs.ListLemmas.{All-back}
-use Rattle.text_docs.proofs.MessageLemmas.{rows_of_text}
-use Rattle.text_docs.proofs.PartLemmas.{drop_more, escape_unclosed, row_of_place}
+use Rattle.text_docs.specs.RowsCompact.{CompactRow, entries, rows_text}
+use Rattle.text_docs.proofs.ListLemmas.{All-back, tail_of}
+use Rattle.text_docs.proofs.MessageLaws.{written_rows}
+use Rattle.text_docs.proofs.PartLemmas.{drop_more, entries_around, row_of_place}
+use Rattle.text_docs.proofs.RowStringsLemmas.{string_unclosed}
+use Rattle.text_docs.proofs.RowsPlainLemmas.{plain_entries, plain_rows, plain_rows_text, plain_step}
+use Rattle.text_docs.proofs.RowsPlainLemmas.{plain_string}
 
 -- ---- the first byte of a language
 
@@ -77,7 +82,8 @@ row_reads : (e : Entry) (es : Entries) (tail : List ℕ) → IsLang e.0.1
     → ReadsAsRow (93 ∷ (open_items true (cells_values (e ∷ es)) ++ tail)) (escape e.0.0)
 row_reads e es tail lang =
     let begins = lang_begins e.0.1 lang in
-    let last = closed_row e.1.label (open_items true (cells_values es) ++ tail) in
+    let last = compact_text (label_value e.1.label)
+    ++ 93 ∷ (open_items true (cells_values es) ++ tail) in
     let left = 44 ∷ (decimal e.1.stamp.time ++ 44 ∷ (quoted e.1.stamp.site
     ++ 44 ∷ (decimal e.1.stamp.count ++ 44 ∷ last))) in
     let language : escape e.0.1 ≡ begins.0 ∷ escape begins.1 =
@@ -85,13 +91,21 @@ row_reads e es tail lang =
       first = begins.0;
       rest = (escape begins.1 ++ 34 ∷ []) ++ left;
       text_is =
-          ap (λ bs. 93 ∷ bs) (rows_step true e es tail)
+          ap (λ bs. 93 ∷ bs) (plain_step true e es tail)
           ∙ ap (λ bs. 93 ∷ 44 ∷ 91 ∷ 34 ∷ bs)
           (append_assoc (escape e.0.0) (34 ∷ []) (44 ∷ (quoted e.0.1 ++ left))
           ∙ ap (λ bs. escape e.0.0 ++ 34 ∷ 44 ∷ 34 ∷ ((bs ++ 34 ∷ []) ++ left)) language);
-      unclosed = escape_unclosed e.0.0;
+      unclosed = string_unclosed (escape e.0.0) e.0.0 (plain_string e.0.0);
       language = begins.3;
     }
+
+-- the last of the rows that are written for some cells are written for their entries
+plain_back : (cells : Entries) (before rest : List CompactRow)
+    → plain_rows cells ≡ before ++ rest → rest ≡ plain_rows (entries rest)
+plain_back cells [] rest is =
+    sym is ∙ ap plain_rows (sym (plain_entries cells) ∙ ap entries is)
+plain_back [] (row ∷ before) rest is = absurd (cc)
+plain_back (e ∷ es) (row ∷ before) rest is = plain_back es before rest (ap tail_of is)
 
 -- a row but the first begins exactly where it reads so
 pub where_it_reads_so : (text name : List ℕ) (cells : Entries) (place : ℕ)
@@ -113,15 +127,24 @@ where_it_reads_so text name cells place plain = (reads, begins)
 
     begins : (id : List ℕ) × ReadsAsRow (drop place text) id → IsRowEnd text name cells place
     begins (id, is) =
-        let rows = rows_of_text text name cells plain in
-        let tail = 93 ∷ last_members (codes "site") (codes "site") name rows.0 in
-        let row = row_of_place text id cells tail place rows.2 is in record {
-          before = row.before;
-          entry = row.entry;
-          after = row.after;
-          end = rows.0;
-          cells_are = row.cells_are;
+        let written = written_rows text name cells plain in
+        let tail = 93 ∷ last_members (codes "site") (codes "site") name written.0 in
+        let at = row_of_place text id (plain_rows cells) tail place written.1 is in
+        let last = at.row ∷ at.after in
+        let plain_last : rows_text true last ++ tail
+        ≡ open_items true (cells_values (entries last)) ++ tail =
+        ap (λ (rs : List CompactRow). rows_text true rs ++ tail)
+        (plain_back cells at.before last at.rows_are)
+        ∙ plain_rows_text true (entries last) tail in record {
+          before = entries at.before;
+          entry = at.row.entry;
+          after = entries at.after;
+          end = written.0;
+          cells_are =
+              sym (plain_entries cells) ∙ ap entries at.rows_are
+              ∙ entries_around at.before at.row at.after;
           text_is =
               is.text_is
-              ∙ ap (λ bs. 93 ∷ bs) (sym (drop_more place 1 text _ is.text_is) ∙ row.comma_is);
+              ∙ ap (λ bs. 93 ∷ bs)
+              (sym (drop_more place 1 text _ is.text_is) ∙ at.comma_is ∙ plain_last);
         }

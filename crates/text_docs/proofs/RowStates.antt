@@ -88,7 +88,8 @@ append s t u xs ys first second = record {
 
 -- ---- strings
 
-one_byte : (b : ℕ) → (b == 34) ≡ false → (b == 92) ≡ false → step inside b ≡ inside
+-- a byte that is neither a quote nor a backslash stays in its string
+pub one_byte : (b : ℕ) → (b == 34) ≡ false → (b == 92) ≡ false → step inside b ≡ inside
 one_byte b quote backslash =
     ap (λ t. cond t closed (cond (b == 92) escaped inside)) quote
     ∙ ap (λ t. cond t escaped inside) backslash
@@ -107,7 +108,8 @@ pub no_letter : (b : ℕ) → nat_lt 0 (escape_letter b) ≡ false
     → ((b == 34) ≡ false) × ((b == 92) ≡ false)
 no_letter b none = (grind (arith, nat_tests), grind (arith, nat_tests))
 
-byte_piece : (b : ℕ) → step inside b ≡ inside → Piece inside inside (b ∷ [])
+-- such a byte
+pub byte_piece : (b : ℕ) → step inside b ≡ inside → Piece inside inside (b ∷ [])
 byte_piece b is = record { fit = refl; free = refl; end = is }
 
 control_piece : (b : ℕ) → nat_lt b 32 ≡ true

@@ -1,18 +1,17 @@
 //! The order of two ids, of which one is given as it is written.
-ghost use Rattle.std.specs.Prelude.{◌≡◌, ◌<◌, ◌∷◌, [], List, ℕ, All, IfSome, IsTrue, MatchOption};
-ghost use Rattle.std.specs.Prelude.{length};
-ghost use Rattle.json.specs.Print.{escape};
-ghost use Rattle.cell_core.specs.MessageId.{is_id_byte};
+ghost use Rattle.std.specs.Prelude.{◌≡◌, ◌<◌, ◌∷◌, [], List, ℕ, IfSome, MatchOption, length, true};
 ghost use Rattle.cell_core.specs.Entry.{text_cmp};
+ghost use Rattle.text_docs.specs.Row.{is_simple};
+ghost use Rattle.text_docs.specs.RowStrings.{IsString};
 
 use crate::row::split;
 use memchr::memchr;
 use std::cmp::Ordering;
 
-/// How an id, as it is written between its quotes, is ordered to another one. Of the bytes of an id
-/// only quotes and backslashes have an escape, which is a backslash before them.
+/// How an id, as it is written between its quotes, is ordered to another one, where its escapes are
+/// those of quotes and backslashes alone.
 pub(crate) fn order_of(written: &[u8], id: &[u8]) -> Ordering
-    ensures { (text : List ℕ) → All (λ b. IsTrue (is_id_byte b)) text → written.now ≡ escape text
+    ensures { (text : List ℕ) → IsString written.now text → is_simple written.now ≡ true
         → result ≡ text_cmp text id.now }
 {
     match memchr(b'\\', written) {
@@ -25,7 +24,7 @@ pub(crate) fn order_of(written: &[u8], id: &[u8]) -> Ordering
 #[cold]
 #[inline(never)]
 fn escaped_order(written: &[u8], id: &[u8]) -> Ordering
-    ensures { (text : List ℕ) → All (λ b. IsTrue (is_id_byte b)) text → written.now ≡ escape text
+    ensures { (text : List ℕ) → IsString written.now text → is_simple written.now ≡ true
         → result ≡ text_cmp text id.now }
 {
     let mut left = written;
@@ -47,12 +46,13 @@ fn escaped_order(written: &[u8], id: &[u8]) -> Ordering
     }
 }
 
-/// The first byte of an id of which this is written, and what is written for the rest.
+/// The first byte of a text of which this is written, with such escapes alone, and what is written
+/// for the rest.
 fn unescaped(written: &[u8]) -> Option<(u8, &[u8])>
     ensures shorter { IfSome result (λ r. length r.1.now < length written.now) }
-    ensures is { (text : List ℕ) → All (λ b. IsTrue (is_id_byte b)) text → written.now ≡ escape text
+    ensures is { (text : List ℕ) → IsString written.now text → is_simple written.now ≡ true
         → MatchOption result (text ≡ []) (λ r. (more : List ℕ) × (text ≡ r.0 ∷ more)
-        × (r.1.now ≡ escape more)) }
+        × IsString r.1.now more × (is_simple r.1.now ≡ true)) }
 {
     let Some((first, rest)) = split(written) else {
         return None;

@@ -1,11 +1,10 @@
-//! One message of a written document.
-ghost use Rattle.std.specs.Prelude.{◌≡◌, ◌≤◌, ◌++◌, List, ℕ, IfOk, MatchResult, drop, length};
+//! One message of a document.
+ghost use Rattle.std.specs.Prelude.{◌≡◌, ◌≤◌, ◌++◌, IfOk, MatchResult, drop, length};
 ghost use Rattle.std.specs.List.{slice_range};
-ghost use Rattle.catalogue.specs.Entries.{Entries};
+ghost use Rattle.cata_core.specs.Site.{SiteState};
 ghost use Rattle.catalogue.specs.Live.{live};
 ghost use Rattle.row_docs.specs.Reading.{no_memory};
-ghost use Rattle.row_docs.specs.declared.kind.Kind.TheVariants as kind;
-ghost use Rattle.site_docs.specs.Plain.{IsPlainText};
+ghost use Rattle.text_docs.specs.Message.{IsCompactSite};
 ghost use Rattle.text_docs.specs.Rows.{AreRowsAt, opening};
 
 use crate::part::part_of;
@@ -16,17 +15,19 @@ use json_docs::DocFault;
 use query_docs::read_message;
 use std::alloc::{AllocError, Global};
 
-/// The site of a document, as far as a question about one message needs it: under its name, with
-/// the live labels of this message. Where the text is that which is written for a site, with its
-/// last line feed or without, a question about the message has the answers that it has over the
-/// whole site, and the one refusal is out of memory (26).
+/// The site of a document, as far as a question about one message needs it: with the live labels
+/// of this message. Where the rows of the document have no blanks, whatever escapes their strings
+/// have, a question about the message has the answers that it has over the whole site, and the one
+/// refusal is out of memory (26). What is written for a site is such a document, with its last line
+/// feed or without.
 ///
-/// Of such a text the rows of the message are read, and those that bisection falls on. Any other
-/// text is read as far as it seems to be such a one, or else whole: what is answered or refused
-/// then is not said. No bytes but those of the text are read, whatever they are.
+/// Of such a text the rows of the message are read, those that bisection falls on, and those beside
+/// them whose ids have other escapes than `\"` and `\\`. Any other text is read as far as it seems
+/// to be such a one, or else whole: what is answered or refused then is not said. No bytes but
+/// those of the text are read, whatever they are.
 pub fn message_in(alloc: Global, text: &[u8], id: &MessageId) -> Result<Site, DocFault>
-    ensures { (name : List ℕ) → (cells : Entries) → IsPlainText kind.Site text.now name cells
-        → MatchResult result (λ part. live part.cells id.now ≡ live cells id.now)
+    ensures { (site : SiteState) → IsCompactSite text.now site
+        → MatchResult result (λ part. live part.cells id.now ≡ live site.cells id.now)
         (λ fault. fault ≡ no_memory) }
 {
     match rows_in(text) {
@@ -38,8 +39,8 @@ pub fn message_in(alloc: Global, text: &[u8], id: &MessageId) -> Result<Site, Do
 /// The same, where all rows of the text are these.
 fn message_of(alloc: Global, text: &[u8], rows: Rows, id: &MessageId) -> Result<Site, DocFault>
     requires { AreRowsAt text.now rows.start rows.end }
-    ensures { (name : List ℕ) → (cells : Entries) → IsPlainText kind.Site text.now name cells
-        → MatchResult result (λ part. live part.cells id.now ≡ live cells id.now)
+    ensures { (site : SiteState) → IsCompactSite text.now site
+        → MatchResult result (λ part. live part.cells id.now ≡ live site.cells id.now)
         (λ fault. fault ≡ no_memory) }
 {
     let part = part_of(text, rows, id.as_str().as_bytes());

@@ -1,11 +1,11 @@
-//! Where a row of a written document begins.
+//! Where a row of a document begins.
 ghost use Rattle.std.specs.Prelude.{◌≡◌, ◌<◌, ◌≤◌, ◌++◌, ◌∷◌, List, ℕ, IfSome, drop, length};
 ghost use Rattle.std.specs.Prelude.{[], MatchOption, take, true};
-ghost use Rattle.text_docs.specs.Row.{ReadsAsRow, begins_language, is_unclosed};
+ghost use Rattle.text_docs.specs.Row.{ReadsAsRow, begins_language, is_simple, is_unclosed};
 
 use memchr::memchr;
 
-/// A row of a written document other than its first.
+/// A row of a document other than its first, whose id has no escapes but `\"` and `\\`.
 #[derive(Clone, Copy)]
 pub(crate) struct Row<'t> {
     /// The place of the bracket that ends the row before.
@@ -18,7 +18,7 @@ pub(crate) struct Row<'t> {
 pub(crate) fn next_row(text: &[u8], from: usize, end: usize) -> Option<Row<'_>>
     requires { end ≤ length text.now }
     ensures { IfSome result (λ row. (from ≤ row.bracket) × (row.bracket < end)
-        × ReadsAsRow (drop row.bracket text.now) row.id.now) }
+        × ReadsAsRow (drop row.bracket text.now) row.id.now × (is_simple row.id.now ≡ true)) }
 {
     let mut place = from;
     while let Some(bracket) = bracket_in(text, place, end) {
@@ -44,7 +44,7 @@ fn bracket_in(text: &[u8], from: usize, end: usize) -> Option<usize>
 
 /// The id of the row that begins after the bracket with which the text begins, and a comma.
 fn row_id(text: &[u8]) -> Option<&[u8]>
-    ensures { IfSome result (λ id. ReadsAsRow text.now id.now) }
+    ensures { IfSome result (λ id. ReadsAsRow text.now id.now × (is_simple id.now ≡ true)) }
 {
     let rest = after(text, b']')?;
     let rest = after(rest, b',')?;
@@ -82,7 +82,7 @@ fn begins_language(first: u8) -> bool
 /// written.
 fn quote_in(text: &[u8]) -> Option<usize>
     ensures { IfSome result (λ end. (end ≤ length text.now)
-        × (is_unclosed (take end text.now) ≡ true)) }
+        × (is_unclosed (take end text.now) ≡ true) × (is_simple (take end text.now) ≡ true)) }
 {
     let mut escaped = false;
     for place in 0..text.len() {

@@ -4,6 +4,6 @@ use Rattle.text_docs.proofs.message.message_in.Goals as goal
 
 -- the whole document is read
 pub returns-in-None : goal.returns-in-None
-returns-in-None c = λ name cells plain.
-    answers_message c.args.text.now name c.args.id.now cells cells c.read_message.result plain refl
-    c.read_message.ensures
+returns-in-None c = λ site compact.
+    answers_message c.args.text.now c.args.id.now site.cells site c.read_message.result
+    compact.reads refl c.read_message.ensures

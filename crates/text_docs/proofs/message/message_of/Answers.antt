@@ -1,19 +1,19 @@
 use Rattle.std.proofs.Common.{◌∙◌, List, ℕ, subst}
 use Rattle.text_docs.specs.Part.{BeginsBefore, EndsAfter}
-use Rattle.text_docs.proofs.MessageLemmas.{answers_message, part_is_text}
+use Rattle.text_docs.proofs.MessageLemmas.{answers_message, part_reads}
 use Rattle.text_docs.proofs.message.message_of.Goals as goal
 
 -- the rows of the message are a document of their own
 pub returns : goal.returns
-returns c = λ name cells plain.
+returns c = λ site compact.
     let own = c.as_bytes.ensures.value ∙ c.as_str.ensures.text in
-    let made =
-    part_is_text c.args.text.now c.as_slice.result.now name c.args.id.now cells c.args.rows.start
-    c.part_of-part.result.start c.part_of-part.result.end c.args.rows.end plain c.requires
+    let part =
+    part_reads c.args.text.now c.as_slice.result.now c.args.id.now site c.args.rows.start
+    c.part_of-part.result.start c.part_of-part.result.end c.args.rows.end compact c.requires
     (subst (λ (id : List ℕ). BeginsBefore c.args.text.now id c.part_of-part.result.start) own
     c.part_of-part.ensures.start)
     (subst (λ (id : List ℕ). EndsAfter c.args.text.now id c.part_of-part.result.end) own
     c.part_of-part.ensures.end)
     c.part_of-part.ensures.within.0 (c.as_slice.ensures.value ∙ c.in_ok-document.ensures) in
-    answers_message c.as_slice.result.now name c.args.id.now cells made.0 c.read_message.result
-    made.1 made.2 c.read_message.ensures
+    answers_message c.as_slice.result.now c.args.id.now site.cells part.site
+    c.read_message.result part.reads part.live_is c.read_message.ensures

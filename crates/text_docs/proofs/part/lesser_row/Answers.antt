@@ -8,6 +8,6 @@ returns-then-is_lt c = (
   omega (arith, c.in_ok-row.ensures.0),
   c.if-start-end.true,
   begins_at_lesser c.args.text.now c.in_ok-row.row.id.now c.args.id.now c.in_ok-row.row.bracket
-      c.order_of.result c.in_ok-row.ensures.2 c.order_of.ensures
+      c.order_of.result c.in_ok-row.ensures.2 c.in_ok-row.ensures.3 c.order_of.ensures
       (sym c.is_lt.ensures ∙ c.if-is_lt.true),
 )

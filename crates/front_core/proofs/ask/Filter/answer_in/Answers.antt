@@ -1,3 +1,5 @@
+use Rattle.std.proofs.Common.{◌∙◌}
+use Rattle.std.proofs.lemmas.Result.{err_from_is_err_and}
 use Rattle.front_core.proofs.WrittenLemmas.{filter_in}
 use Rattle.front_core.proofs.ask.Filter.answer_in.Goals as goal
 
@@ -6,3 +8,9 @@ pub returns : goal.returns
 returns c = λ site written.
     filter_in c.answer.result c.in_ok-part.part site c.args.self.now
     (c.in_ok-part.ensures site written) c.answer.ensures
+
+-- the message is refused for want of memory alone
+pub returns-in_err-part : goal.returns-in_err-part
+returns-in_err-part c = λ site compact.
+    let p = err_from_is_err_and c.from_residual.result c.from_residual.ensures.1 in
+    rw p.1 (p.2 ∙ c.in_err-part.ensures site compact)

@@ -1,0 +1,10 @@
+use Rattle.std.proofs.Common.{◌∙◌, ap}
+use Rattle.std.proofs.lemmas.Result.{err_from_is_err_and}
+use Rattle.front_core.specs.Fault.{document_fault}
+use Rattle.front_core.proofs.written.message_in.Goals as goal
+
+-- of such a document the part is refused for want of memory alone
+pub returns-in_err-part : goal.returns-in_err-part
+returns-in_err-part c = λ site compact.
+    let p = err_from_is_err_and c.from_residual.result c.from_residual.ensures.1 in
+    rw p.1 (p.2 ∙ ap document_fault (c.in_err-part.ensures site compact))
