@@ -1,6 +1,6 @@
 #!/usr/bin/env bash
-# Compiles the headers under all warnings, each alone, as C99 and C11, and as C++98 and C++17.
-# Needed: a C compiler (CC, or cc), and one of C++ (CXX, or c++).
+# Compiles the headers under all warnings, each alone, as C99 and C11, and as C++98 and C++17, where
+# the calls have the names of C. Needed: a C compiler (CC, or cc), and one of C++ (CXX, or c++).
 cd "$(dirname "$0")/../.." || exit 1
 . tests/lib/tap.sh
 . tests/library/library.sh
@@ -24,6 +24,20 @@ headers_as() { # a compiler, its name of the language, and standards
     done
 }
 
+have_names_of_c() { # each call, where C++ refers to it
+    {
+        printf '#include "%s"\n' include/*.h
+        sed -n 's/^[a-z0-9_]* \(sw_[a-z_]*\)(.*/auto *of_\1 = \1;/p' include/*.h
+    } > "$room/calls.cpp"
+    "$cxx" -std=c++17 -I. -S "$room/calls.cpp" -o "$room/calls.s" &&
+        grep -q sw_version "$room/calls.s" && ! grep '_Z[0-9]*sw_' "$room/calls.s"
+}
+
 headers_as "$cc" c c99 c11
 headers_as "$cxx" c++ c++98 c++17
+if is_there "$cxx"; then
+    check 'the names of the calls in C++' have_names_of_c
+else
+    lacks 'the names of the calls in C++' "$cxx"
+fi
 end
