@@ -6,9 +6,10 @@ cd "$(dirname "$0")/../.." || exit 1
 . tests/library/library.sh
 
 compiles_as() { # the compiler, its name of the language, and the standard
-    local header
+    local header more=()
+    if [ "$2" = c ]; then more=(-Wstrict-prototypes); fi
     for header in include/*.h; do
-        "$1" -x "$2" -std="$3" "${all_warnings[@]}" -fsyntax-only "$header" || return
+        "$1" -x "$2" -std="$3" "${all_warnings[@]}" "${more[@]}" -fsyntax-only "$header" || return
     done
 }
 
