@@ -43,7 +43,7 @@ def state_of(package, seed=7):
     done = subprocess.run(words, capture_output=True, text=True)
     if done.returncode != 0:
         raise chromium.Failed(done.stderr[-1500:])
-    return [json.loads(it) for it in done.stdout.splitlines()]
+    return [json.loads(it) for it in done.stdout.split("\n")[:-1]]
 
 
 def state(room):

@@ -23,7 +23,7 @@ const sw = await load();
 const MINUTE = 60000;
 const DAY = 1440 * MINUTE;
 const IDS = ['__proto__', 'constructor', 'a', 'b', 'é', '\u{1f600}', '\uffff', 'menu.open'];
-const TAGS = ['en', 'fr', 'ar', 'x-note'];
+const TAGS = ['en', 'en-gb', 'fr', 'ar', 'x-note'];
 const TEXTS = ['', 'x', 'y\r\nz', '"', '\\', '\u2028', 'long '.repeat(50)];
 
 let state = Number(process.argv[4]) >>> 0;
