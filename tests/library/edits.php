@@ -43,3 +43,7 @@ foreach ([fn () => $paris->put("m", "en", "x", -1), fn () => $paris->take("", -1
 }
 $again = new Silkwaram($paris->document(), $library);
 echo $again->lookup("m", "en")["texts"][0], "\n";
+// (an answer that the first room is too small for)
+$long = str_repeat("é", 5000);
+$again->put("m", "de", $long, 10);
+echo json_encode($again->text("m", "de") === $long), "\n";
