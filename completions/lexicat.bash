@@ -36,8 +36,8 @@ _lexicat() {
         filter) options='--id --scheme --lenient --help -h' ;;
         lookup) options='--id --scheme --lenient --widen --default --help -h' ;;
         bundle) options='--scheme --lenient --widen --default --help -h' ;;
-        take | sync | merge) options='--not-after --help -h' ;;
-        explain) options='1 2 3 4 5 6 7 8 9 10 11 12 13 14 15 16 17 18 19 20 21 22 23 24 25 26 27 28 29 --help -h' ;;
+        take | sync | merge) options='--not-after --check-own --help -h' ;;
+        explain) options='1 2 3 4 5 6 7 8 9 10 11 12 13 14 15 16 17 18 19 20 21 22 23 24 25 26 27 28 29 30 --help -h' ;;
         help) options=$commands ;;
         *) return ;;
     esac

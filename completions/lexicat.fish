@@ -38,4 +38,5 @@ complete -c lexicat -n '__fish_seen_subcommand_from put delete filter lookup' -x
 complete -c lexicat -n '__fish_seen_subcommand_from put delete missing outdated' -x -l lang -d 'A language tag, or @none'
 complete -c lexicat -n '__fish_seen_subcommand_from outdated' -x -l source -d 'The language that was translated from, or @none'
 complete -c lexicat -n '__fish_seen_subcommand_from take sync merge' -x -l not-after -d 'Refuse to join a document that has a time after this, a whole number'
-complete -c lexicat -n '__fish_seen_subcommand_from explain' -a '1 2 3 4 5 6 7 8 9 10 11 12 13 14 15 16 17 18 19 20 21 22 23 24 25 26 27 28 29'
+complete -c lexicat -n '__fish_seen_subcommand_from take sync merge' -l check-own -d 'Refuse to join a document that has an edit of the site which the site lacks: it was put back to an older copy, or another site has its name'
+complete -c lexicat -n '__fish_seen_subcommand_from explain' -a '1 2 3 4 5 6 7 8 9 10 11 12 13 14 15 16 17 18 19 20 21 22 23 24 25 26 27 28 29 30'

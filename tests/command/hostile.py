@@ -29,6 +29,7 @@ TEXTS = {
     27: "site name",
     28: "version unknown",
     29: "time is ahead",
+    30: "an edit of this site is missing here",
 }
 EMPTY_LINE = "site a cells 0 labels 0 last none\n"
 ONE_LINE = "site a cells 1 labels 1 last 5 a 0\n"

@@ -21,8 +21,8 @@ from silkwaram import Refused, Site, filter_tags, pick  # noqa: E402
 from silkwaram._library import NOTHING, answered, library  # noqa: E402
 
 PAGE = os.path.join(os.path.dirname(os.path.realpath(__file__)), "../../docs/REFUSALS.md")
-NUMBERS = range(1, 30)
-NO_NUMBERS = (0, 30, 31, 256, 256 + 3, 2**31, 2**32 - 1)
+NUMBERS = range(1, 31)
+NO_NUMBERS = (0, 31, 32, 256, 256 + 3, 2**31, 2**32 - 1)
 # What the call says in place of the rule, where the shape of a document is refused.
 WANTED = {
     "open": "a site document is wanted",

@@ -6,7 +6,7 @@ text of each variant with the number that it answers); the text that
 crates/front_core/src/refusal.rt has for the library, which is that of the table, or the one that
 the page names under "The library"; what is wanted, the cause and what to do as that file has them,
 with which the cells of the table have to begin; and the items of DIAGNOSTICS in man/lexicat.1, each
-of which is a text, what is wanted and what to do. The numbers are 1 to 29, each once. It reads
+of which is a text, what is wanted and what to do. The numbers are 1 to 30, each once. It reads
 files, and needs Python alone.
 """
 import os
@@ -24,7 +24,7 @@ MANUAL = "man/lexicat.1"
 EXPLAINED = "crates/front_core/src/refusal.rt"
 OF_LANGUAGES = "crates/lang_core/src/fault.rt"
 COLUMNS = ("what is wanted", "cause", "what to do")
-ALL = set(range(1, 30))
+ALL = set(range(1, 31))
 ERROR = re.compile(r'#\[error\("([^"]*)"(?:, (.*))?\)\]')
 faults = []
 fault = faults.append

@@ -51,7 +51,7 @@ in_entries (e ∷ es) x h =
     (λ _. In (e ∷ es) x) [ inl s ↦ inl s | inr r ↦ inr (in_entries es x r) ]
 
 -- what a catalogue has was taken
-in_catalogue : (xs : List Entry) (x : Entry) → In (catalogue_of xs) x → In xs x
+pub in_catalogue : (xs : List Entry) (x : Entry) → In (catalogue_of xs) x → In xs x
 in_catalogue xs x h = let g =
     in_filter (is_best xs) xs x (in_entries (filter (is_best xs) xs) x h) in g.0
 

@@ -5,6 +5,7 @@ pub mod DeltaMissingLemmas
 pub mod DeltaPartsLemmas
 pub mod LatestKnownLemmas
 pub mod LatestTakenLemmas
+pub mod OwnEditsLemmas
 pub mod RunsDeliveriesLemmas
 pub mod RunsMachineLemmas
 pub mod RunsNeededLemmas

@@ -162,7 +162,9 @@ by_step (Edit site edit) f h =
     ]
 by_step _ f h = absurd h
 
-steps_have : (steps : List Step) (f : Entry) → In (edits_of steps) f → (s : ℕ) × In steps (Edit s f)
+-- each edit of the steps is made at some site
+pub steps_have : (steps : List Step) (f : Entry) → In (edits_of steps) f
+    → (s : ℕ) × In steps (Edit s f)
 steps_have [] f h = absurd h
 steps_have (step ∷ steps) f h =
     elim (in_append_cases (edits_by step) (edits_of steps) f h) as
@@ -174,7 +176,7 @@ steps_have (step ∷ steps) f h =
 -- ---- what reaches the others
 
 -- an edit is among those that its site took
-edited : (w : Taken) (steps : List Step) (s : ℕ) (f : Entry) → In steps (Edit s f) → let v =
+pub edited : (w : Taken) (steps : List Step) (s : ℕ) (f : Entry) → In steps (Edit s f) → let v =
     taken_after w steps in In (v.of_site s) f
 edited w [] s f h = absurd h
 edited w (step ∷ steps) s f h =

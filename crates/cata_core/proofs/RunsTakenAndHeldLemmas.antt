@@ -17,7 +17,7 @@ use Rattle.cata_core.specs.declared.play_fault.PlayFault.TheVariants.{StampReuse
 use Rattle.cell_core.specs.Entry.{EntryKey, key_cmp}
 use Rattle.catalogue.specs.Entries.{Entry, Entries, Agree, joined}
 use Rattle.catalogue.specs.Edits.{catalogue_of, IsConsistent}
-use Rattle.cata_core.specs.Delta.{summary_of, delta_of}
+use Rattle.cata_core.specs.Delta.{delta_of, is_missing, summary_of}
 use Rattle.cata_core.specs.RunsTaken.{PostedEdits, Taken, edits_delivered, edits_in, takes}
 use Rattle.cata_core.specs.RunsTaken.{tellers_by}
 use Rattle.cata_core.specs.RunsTaken.{post_to, edits_posted, taken_step, nothing_taken, taken_after}
@@ -31,13 +31,15 @@ use Rattle.catalogue.specs.Clash.{IsFirstClash}
 use Rattle.cata_core.specs.PlayFault.{IsFaultOf, IsNoClash}
 use Rattle.catalogue.proofs.CatalogueMembersLemmas.{In, in_append_left, in_append_right}
 use Rattle.catalogue.proofs.CatalogueMembersLemmas.{in_append_cases}
-use Rattle.catalogue.proofs.CatalogueMembersLemmas.{Contains-from_in}
+use Rattle.catalogue.proofs.CatalogueMembersLemmas.{Contains-from_in, in_filter}
 use Rattle.catalogue.proofs.CatalogueBestLemmas.{best_in}
 use Rattle.catalogue.proofs.CatalogueLemmas.{catalogue_of-IsMap, found_best}
 use Rattle.catalogue.proofs.CatalogueJoinsLemmas.{joined_catalogue}
 use Rattle.catalogue.proofs.CatalogueSettledLemmas.{settled_part, catalogue_of-one}
 use Rattle.catalogue.proofs.ClashLemmas.{clash_not_agree}
+use Rattle.catalogue.proofs.Basics.{some_same}
 use Rattle.cata_core.proofs.DeltaLemmas.{nothing_lost, part_agrees}
+use Rattle.cata_core.proofs.LatestTakenLemmas.{in_catalogue}
 use Rattle.cata_core.proofs.SummaryLemmas.{has_told}
 use Rattle.cata_core.proofs.RunsTakesLemmas.{grows}
 use Rattle.cata_core.proofs.RunsMachineLemmas.{FaultFrom, HeldAnswersFrom, TakenAnswersFrom}
@@ -388,6 +390,32 @@ module _ (all : List Entry) (consistent : IsConsistent all) where
 
   start : Goes nothing_held nothing_taken
   start = record { sites = λ s. refl; known = λ s f h. absurd h; told = tt; posts = tt }
+
+  post_known : (of : ℕ → List Entry) (p : Option PostedCells) (q : Option PostedEdits)
+      → Both (PostMatches of) p q → (c : ℕ × Entries) → cells_delivered p ≡ Some c → (e : Entry)
+      → In c.1 e → In all e
+  post_known of None q r c is e h = absurd (cc)
+  post_known of (Some p) None r c is e h = absurd r
+  post_known of (Some p) (Some q) r c is e h =
+      let cells : c.1 ≡ delta_of (catalogue_of q.edits) (summary_of (catalogue_of r.told)) =
+      sym (ap (λ (x : ℕ × Entries). x.1) (some_same (p.addressee, p.cells) c is)) ∙ r.cells in
+      let sent =
+      in_filter
+      (λ (d : Entry). is_missing (find key_cmp d.0 (summary_of (catalogue_of r.told))) d.1.stamp)
+      (catalogue_of q.edits) e (subst (λ es. In es e) cells h) in
+      r.known e (in_catalogue q.edits e sent.0)
+
+  -- what a delta brings are edits
+  pub brought_known : (steps : List Step) → ((f : Entry) → In (edits_of steps) f → In all f)
+      → (post : ℕ) (c : ℕ × Entries)
+      → cells_in (held_after nothing_held steps) (Deliver post) ≡ Some c → (e : Entry)
+      → In c.1 e → In all e
+  brought_known steps in_es post c is e h =
+      let v = held_after nothing_held steps in
+      let w = taken_after nothing_taken steps in
+      let g = goes_after nothing_held nothing_taken start steps in_es in
+      post_known w.of_site (slice_get v.posts post) (slice_get w.posts post)
+      (each_get (PostMatches w.of_site) v.posts w.posts post g.posts) c is e h
 
 -- with consistent edits, whatever is delivered, a site holds the catalogue of what it took
 pub held_is_catalogue : (steps : List Step) → IsConsistent (edits_of steps) → (site : ℕ)

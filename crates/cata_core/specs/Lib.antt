@@ -4,6 +4,7 @@ pub mod AnswerEq
 pub mod Delta
 pub mod DeltaSeeking
 pub mod LatestKnown
+pub mod OwnEdits
 pub mod PlayFault
 pub mod RunsSpreads
 pub mod RunsTaken

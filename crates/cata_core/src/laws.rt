@@ -16,6 +16,7 @@ ghost use Rattle.cata_core.specs.Delta.{delta_of};
 ghost use Rattle.catalogue.specs.CatalogueParts.{part_of};
 ghost use Rattle.cata_core.specs.declared.step.Step.{Step};
 ghost use Rattle.cata_core.specs.declared.step.Step.TheVariants.{Edit, Tell, Post, Deliver};
+ghost use Rattle.cata_core.specs.OwnEdits.{AreMadeAtHome, LacksNoEdit};
 ghost use Rattle.cata_core.specs.RunsTaken.{taken, taken_after, nothing_taken, edits_in, edits_of};
 ghost use Rattle.cata_core.specs.WorldHeld.{held, held_after, nothing_held, cells_in};
 ghost use Rattle.list_core.specs.Item.{Item};
@@ -252,6 +253,20 @@ pub fn a_part_of_a_delta_is_the_delta_of_parts()
         ≡ delta_of (part_of messages cells) (part_of messages summary) }
     ensures summary { (messages : List ℕ → Bool) (cells : Entries)
         → part_of messages (summary_of cells) ≡ summary_of (part_of messages cells) }
+{}
+
+/// A site never lacks an edit of its own. In a consistent run in which each edit is made at the
+/// site that its stamp names, no site has an edit which its author lacks, nor does a delta bring
+/// one, whenever it was posted.
+pub fn a_site_lacks_no_edit_of_its_own()
+    ensures sites { (names : ℕ → List ℕ) (steps : List Step) (a b : ℕ)
+        → IsConsistent (edits_of steps) → AreMadeAtHome names steps
+        → LacksNoEdit (names a) (held steps a) (held steps b) }
+    ensures deltas { (names : ℕ → List ℕ) (earlier later : List Step) (a post : ℕ)
+        (brought : ℕ × Entries) → let steps = earlier ++ later in
+        IsConsistent (edits_of steps) → AreMadeAtHome names steps
+        → cells_in (held_after nothing_held earlier) (Deliver post) ≡ Some brought
+        → LacksNoEdit (names a) (held steps a) brought.1 }
 {}
 
 // ---- that premises are needed

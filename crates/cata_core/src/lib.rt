@@ -27,6 +27,7 @@ mod answer;
 mod delta;
 mod latest;
 pub mod laws;
+mod own_edits;
 mod play_fault;
 mod runs;
 mod site;

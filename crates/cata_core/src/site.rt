@@ -1,12 +1,13 @@
 //! Sites: catalogues with a name, which make edits, and summaries and deltas for one another.
 
-ghost use Rattle.std.specs.Prelude.{◌≡◌, [], ◌∷◌, OnOk, OnErr, IfOk, IfErr, IsOk, MatchResult};
-ghost use Rattle.std.specs.Prelude.{Some, None};
+ghost use Rattle.std.specs.Prelude.{◌≡◌, ◌<◌, ◌^◌, [], ◌∷◌, OnOk, OnErr, IfOk, IfErr, IsOk};
+ghost use Rattle.std.specs.Prelude.{MatchOption, MatchResult, Some, None, length};
 ghost use Rattle.std.specs.FinMap.Entries.{put};
 ghost use Rattle.std.specs.Cmp as laws_of;
 ghost use Rattle.cell_core.specs.Stamp.{IsNext, IsAbove};
 ghost use Rattle.catalogue.specs.CataFault.{IsRefusal, IsLeft};
 ghost use Rattle.cata_core.specs.Delta.{summary_of, delta_of};
+ghost use Rattle.cata_core.specs.OwnEdits.{IsFirstLacked, LacksNoEdit};
 ghost use Rattle.cell_core.specs.Entry.{key_cmp};
 ghost use Rattle.catalogue.specs.Entries.{Agree, joined, Between};
 ghost use Rattle.catalogue.specs.CatalogueLatest.{latest_of, IsLatest};
@@ -15,6 +16,7 @@ ghost use Rattle.cata_core.specs.Site.{site_eq, site_equiv};
 
 use crate::delta::{Delta, missing_cells};
 use crate::latest::Latest;
+use crate::own_edits::first_lacked;
 use crate::summary::Summary;
 use catalogue::{CataFault, Catalogue, Edit};
 use cell_core::{Cell, Label, MessageId, SiteName, Stamp};
@@ -219,6 +221,20 @@ impl Site {
     {
         let cells = missing_cells(alloc, &self.catalogue, summary)?;
         Ok(Delta::from_catalogue(summary.owner(), cells))
+    }
+
+    /// The first of these rows, counted from 0 in ascending order of key, that is an edit which the
+    /// site made and lacks: at its key it has nothing, or a lesser stamp. There are fewer than 2^64
+    /// rows ([`Catalogue::len`]).
+    ///
+    /// A site has what it made, or something later. So such a row shows that the site was put back
+    /// to an older copy, or that another site has its name.
+    pub fn lacks_own(&self, rows: &Catalogue) -> Option<usize>
+        ensures { length rows.now < 2 ^ 64
+            → MatchOption result (LacksNoEdit self.now.name self.now.cells rows.now)
+            (IsFirstLacked self.now.name self.now.cells rows.now) }
+    {
+        first_lacked(self.own_name, &self.catalogue, rows)
     }
 
     /// Joins the cells of a delta for this site.

@@ -200,17 +200,21 @@ summary_app = new_app (codes "summary")
 abbrev pub delta_app : App
 delta_app = new_app (codes "delta")
 
--- `take [--not-after N]`
+-- what an exchange tests: `[--not-after N] [--check-own]`
+abbrev pub checks_app : App → App
+checks_app app = with_rule (with_rule app not_after_rule) (flag_rule (codes "check-own"))
+
+-- `take [--not-after N] [--check-own]`
 abbrev pub take_app : App
-take_app = with_rule (new_app (codes "take")) not_after_rule
+take_app = checks_app (new_app (codes "take"))
 
--- `sync [--not-after N]`
+-- `sync [--not-after N] [--check-own]`
 abbrev pub sync_app : App
-sync_app = with_rule (new_app (codes "sync")) not_after_rule
+sync_app = checks_app (new_app (codes "sync"))
 
--- `merge [--not-after N]`
+-- `merge [--not-after N] [--check-own]`
 abbrev pub merge_app : App
-merge_app = with_rule (new_app (codes "merge")) not_after_rule
+merge_app = checks_app (new_app (codes "merge"))
 
 -- `replay`, without arguments
 abbrev pub replay_app : App

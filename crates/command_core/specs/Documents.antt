@@ -7,7 +7,6 @@ use Rattle.docs_core.specs.Importing as exchange
 use Rattle.row_docs.specs.Reading.{IsOfDocument}
 use Rattle.site_docs.specs.Reading.{RefusesSite}
 use Rattle.docs_core.specs.Merging.{IsMerged, RefusesMerge}
-use Rattle.docs_core.specs.TimeLimits.{IsTakenUntil, RefusesTakingUntil}
 use Rattle.docs_core.specs.Updating as updated
 use Rattle.json_docs.specs.declared.fault.DocFault.{DocFault}
 use Rattle.docs_core.specs.Lines.{AreDocuments, AreThreeDocuments}
@@ -24,9 +23,9 @@ IsDocument (Update now) input text =
     × updated.IsUpdated site now old new text
 IsDocument Delta input text =
     (site summary : List ℕ) × AreDocuments input site summary × call.IsDeltaFor site summary text
-IsDocument (Take limit) input text =
-    (site delta : List ℕ) × AreDocuments input site delta × IsTakenUntil site delta limit text
-IsDocument (Merge limit) input text = IsMerged input limit text
+IsDocument (Take checks) input text =
+    (site delta : List ℕ) × AreDocuments input site delta × call.IsTaken checks site delta text
+IsDocument (Merge checks) input text = IsMerged checks input text
 
 -- how the cells of the two sites of an input differ, and whether they do
 abbrev pub AreChangesOf : List ℕ → List ℕ → Bool → Type 0
@@ -52,7 +51,7 @@ RefusesDocuments (Update now) input fault =
 RefusesDocuments Delta input fault =
     (site summary : List ℕ) × AreDocuments input site summary
     × call.RefusesDeltaFor site summary fault
-RefusesDocuments (Take limit) input fault =
+RefusesDocuments (Take checks) input fault =
     (site delta : List ℕ) × AreDocuments input site delta
-    × RefusesTakingUntil site delta limit fault
-RefusesDocuments (Merge limit) input fault = RefusesMerge input limit fault
+    × call.RefusesTaking checks site delta fault
+RefusesDocuments (Merge checks) input fault = RefusesMerge checks input fault

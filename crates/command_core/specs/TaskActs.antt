@@ -10,7 +10,7 @@ use Rattle.docs_core.specs.Calls as call
 use Rattle.site_docs.specs.Reading.{IsSiteText, ReadsAsSite}
 use Rattle.json_docs.specs.declared.fault.DocFault.{DocFault}
 use Rattle.docs_core.specs.Replaying.{RefusesReplay, Replays}
-use Rattle.docs_core.specs.TimeLimits.{AreSyncedUntil, RefusesSyncUntil}
+use Rattle.site_docs.specs.declared.checks.Checks.{Checks}
 use Rattle.front_core.specs.TagPick.{AnswersPick, RefusesPick}
 use Rattle.front_core.specs.TagFilter.{IsLangFilter, RefusesTagFilter}
 use Rattle.front_core.specs.Ask.{HasQuestion, IsAnswer, AnswersBundle, AnswersFilter, AnswersLookup}
@@ -97,16 +97,16 @@ abbrev pub AnswersDocuments : DocumentTask → List ℕ → List ℕ → ℕ →
 AnswersDocuments task input text answered = IsDocument task input text × (answered ≡ 0)
 
 -- the two documents, the one after the other
-abbrev pub IsSync : Option ℕ → List ℕ → List ℕ → ℕ → Type 0
-IsSync limit input text answered =
+abbrev pub IsSync : Checks → List ℕ → List ℕ → ℕ → Type 0
+IsSync checks input text answered =
     (first second one other : List ℕ) × AreDocuments input first second
-    × AreSyncedUntil first second limit one other × (text ≡ one ++ other) × (answered ≡ 0)
+    × call.AreSynced checks first second one other × (text ≡ one ++ other) × (answered ≡ 0)
 
--- the first document is refused, then the second, then their times, then the join
-abbrev pub RefusesSync : Option ℕ → List ℕ → DocFault → Type 0
-RefusesSync limit input fault =
+-- the first document is refused, then the second, then what they test, then the join
+abbrev pub RefusesSync : Checks → List ℕ → DocFault → Type 0
+RefusesSync checks input fault =
     (first second : List ℕ) × AreDocuments input first second
-    × RefusesSyncUntil first second limit fault
+    × call.RefusesSync checks first second fault
 
 -- ---- questions to a site
 
@@ -182,7 +182,8 @@ Answers (task.Lookup words) reader text answered =
 Answers (task.Bundle words) reader text answered =
     AnswersQuestion (ArePreferences words.field words.default)
     (λ asked site. AnswersBundle site.cells asked) reader text answered
-Answers (task.Sync limit) reader text answered = AnswersInput (IsSync limit) reader text answered
+Answers (task.Sync checks) reader text answered =
+    AnswersInput (IsSync checks) reader text answered
 Answers task.Replay reader text answered = AnswersInput IsReplay reader text answered
 Answers (task.Explain number) reader text answered =
     IsUnread reader × IsExplained number text answered
@@ -218,8 +219,8 @@ Refuses (task.Lookup words) reader refused =
 Refuses (task.Bundle words) reader refused =
     RefusesQuestion (ArePreferences words.field words.default)
     (RefusesPreferences words.field words.default) reader refused
-Refuses (task.Sync limit) reader refused =
-    RefusesInput NoWords RefusesNothing (RefusesSync limit) reader refused
+Refuses (task.Sync checks) reader refused =
+    RefusesInput NoWords RefusesNothing (RefusesSync checks) reader refused
 Refuses task.Replay reader refused =
     RefusesInput NoWords RefusesNothing RefusesReplay reader refused
 Refuses (task.Explain number) reader refused = IsUnread reader × RefusesNever refused

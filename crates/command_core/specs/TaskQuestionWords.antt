@@ -72,4 +72,4 @@ outdated_words rows =
 
 -- the number of a refusal
 abbrev pub is_refusal : ℕ → Bool
-is_refusal number = nat_lt 0 number && nat_lt number 30
+is_refusal number = nat_lt 0 number && nat_lt number 31

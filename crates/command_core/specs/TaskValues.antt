@@ -47,6 +47,6 @@ task_values (task.Filter id field) = Filter (record { id = id.now; field = field
 task_values (task.Lookup id preferences) =
     Lookup (record { id = id.now; preferences = preference_values preferences })
 task_values (task.Bundle preferences) = Bundle (preference_values preferences)
-task_values (task.Sync limit) = Sync limit
+task_values (task.Sync checks) = Sync checks
 task_values task.Replay = Replay
 task_values (task.Explain it) = Explain it

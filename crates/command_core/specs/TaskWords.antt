@@ -4,6 +4,9 @@ use Rattle.std.specs.Prelude.{option_and_then, option_map, if◌then◌else◌, 
 use Rattle.std.specs.Str.{bytes_eq}
 use Rattle.std.specs.Str.Parse.{IsNumeral, digits_value, without_leading_plus}
 use Rattle.clap.specs.Words.{Row, Text, first_of, one_of}
+use Rattle.site_docs.specs.declared.checks.Checks.{Checks}
+use Rattle.site_docs.specs.declared.checks.OwnEdits.{OwnEdits}
+use Rattle.site_docs.specs.declared.checks.OwnEdits.TheVariants.{Checked, Unchecked}
 use Rattle.front_core.specs.declared.exchange.View.{View as SiteView}
 use Rattle.front_core.specs.declared.exchange.View.TheVariants as view
 use Rattle.command_core.specs.TaskQuestionWords.{FilterWords, LookupWords, OutdatedWords}
@@ -54,7 +57,7 @@ pub data TaskWords : Type 0 where
   Filter : (words : FilterWords) → TaskWords
   Lookup : (words : LookupWords) → TaskWords
   Bundle : (words : PreferenceWords) → TaskWords
-  Sync : (limit : Option ℕ) → TaskWords
+  Sync : (checks : Checks) → TaskWords
   Replay : TaskWords
   Explain : (number : ℕ) → TaskWords
 
@@ -78,6 +81,17 @@ abbrev pub explain_task : Option ℕ → Option TaskWords
 explain_task None = None
 explain_task (Some number) = if is_refusal number then Some (Explain number) else None
 
+-- whether edits of the site's own are looked for
+abbrev pub own_edits_of : Bool → OwnEdits
+own_edits_of checked = if checked then Checked else Unchecked
+
+-- what an exchange tests: the limit on times, and edits of the site's own with `--check-own`
+abbrev pub checks_words : Option ℕ → List Row → Checks
+checks_words limit rows = record {
+  not_after = limit;
+  own_edits = own_edits_of (is_given (first_of (codes "check-own") rows));
+}
+
 -- the task of the command of this name with these numbers, or none: it is no command of the
 -- program, a word is missing, or two do not go together
 abbrev pub task_words : Text → Numbers → List Row → Option TaskWords
@@ -99,9 +113,12 @@ task_words name numbers rows =
     option_map Bundle (preference_words (codes "field") rows)
     else (if bytes_eq name (codes "summary") then Some (View view.Summary)
     else (if bytes_eq name (codes "delta") then Some (Document document.Delta)
-    else (if bytes_eq name (codes "take") then Some (Document (document.Take numbers.not_after))
-    else (if bytes_eq name (codes "sync") then Some (Sync numbers.not_after)
-    else (if bytes_eq name (codes "merge") then Some (Document (document.Merge numbers.not_after))
+    else (if bytes_eq name (codes "take") then
+    Some (Document (document.Take (checks_words numbers.not_after rows)))
+    else (if bytes_eq name (codes "sync") then
+    Some (Sync (checks_words numbers.not_after rows))
+    else (if bytes_eq name (codes "merge") then
+    Some (Document (document.Merge (checks_words numbers.not_after rows)))
     else (if bytes_eq name (codes "replay") then Some Replay
     else (if bytes_eq name (codes "explain") then explain_task numbers.number
     else None))))))))))))))))))))

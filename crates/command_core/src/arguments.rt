@@ -3,7 +3,7 @@ ghost use Rattle.std.specs.Prelude.{◌≡◌, false, codes, IfOk};
 ghost use Rattle.clap.specs.Words.{app_of, new_app};
 ghost use Rattle.clap.specs.declared.builder.command.Command.TheViews.{out-Command};
 ghost use Rattle.command_core.specs.ArgumentsWords.{IsArgument, IsCommand, Joins, default_rule};
-ghost use Rattle.command_core.specs.ArgumentsWords.{edit_app};
+ghost use Rattle.command_core.specs.ArgumentsWords.{checks_app, edit_app};
 ghost use Rattle.command_core.specs.ArgumentsWords.{field_rule, flag_rule, id_rule, lang_rule};
 ghost use Rattle.command_core.specs.ArgumentsWords.{not_after_rule, now_rule, number_rule};
 ghost use Rattle.command_core.specs.ArgumentsWords.{preferences_app};
@@ -122,6 +122,18 @@ pub(crate) fn not_after<'a>(alloc: Global) -> Arg<'a>
         .value_parser(value_parser!(u64))
 }
 
+/// `--check-own`, which takes no value.
+pub(crate) fn check_own<'a>(alloc: Global) -> Arg<'a>
+    ensures { IsArgument (flag_rule (codes "check-own")) result }
+{
+    flag(
+        alloc,
+        "check-own",
+        "Refuse to join a document that has an edit of the site which the site lacks: it was put \
+            back to an older copy, or another site has its name",
+    )
+}
+
 /// The number of a refusal.
 pub(crate) fn number<'a>(alloc: Global, numbers: &'a [&'a str]) -> Arg<'a>
     ensures { IsArgument (number_rule numbers.entry) result }
@@ -203,6 +215,17 @@ pub(crate) fn with_edit<'a>(alloc: Global, command: Command<'a>) -> Result<Comma
     ensures { IfOk result (IsCommand (edit_app (app_of command.entry))) }
 {
     command.arg(now(alloc))?.arg(id(alloc))?.arg(lang(alloc))
+}
+
+/// The command with what an exchange tests: the latest time, and edits of the site's own.
+pub(crate) fn with_checks<'a>(
+    alloc: Global,
+    command: Command<'a>,
+) -> Result<Command<'a>, AllocError>
+    requires { (out-Command command).has_globals ≡ false }
+    ensures { IfOk result (IsCommand (checks_app (app_of command.entry))) }
+{
+    command.arg(not_after(alloc))?.arg(check_own(alloc))
 }
 
 /// A priority list of language ranges, by this name.

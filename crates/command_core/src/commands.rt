@@ -315,57 +315,60 @@ fn bundle<'a>(alloc: Global, schemes: &'a [&'a str]) -> Result<Command<'a>, Allo
     arguments::with_preferences(alloc, command, schemes, "field", "FIELD")
 }
 
-/// `take [--not-after N]`
+/// `take [--not-after N] [--check-own]`
 fn take<'a>(alloc: Global) -> Result<Command<'a>, AllocError>
     ensures { IfOk result (IsCommand take_app) }
 {
-    reading(
+    let command = reading(
         alloc,
         "take",
         "cat SITE DELTA | lexicat take [OPTIONS]",
         "Joins a delta into the site that it is for",
         "Reads a site document, then a delta. With --not-after a delta with a later time is \
-            refused as a whole; the site's own times do not count.\n\
+            refused as a whole; the site's own times do not count. With --check-own so is one with \
+            an edit that the site made and lacks.\n\
             Document 1 of the input ends at the first LF, and all after it is document 2.\n\
             Example: (lexicat new --site tokyo; cat delta.json) | lexicat take > tokyo.json",
-    )
-    .arg(arguments::not_after(alloc))
+    );
+    arguments::with_checks(alloc, command)
 }
 
-/// `sync [--not-after N]`
+/// `sync [--not-after N] [--check-own]`
 fn sync<'a>(alloc: Global) -> Result<Command<'a>, AllocError>
     ensures { IfOk result (IsCommand sync_app) }
 {
-    reading(
+    let command = reading(
         alloc,
         "sync",
         "cat SITE OTHER | lexicat sync [OPTIONS]",
         "Merges two sites with one another, so that both have the same cells",
         "Reads two site documents and prints both, one line each, in the order read. With \
-            --not-after a later time in either of them refuses the whole.\n\
+            --not-after a later time in either of them refuses the whole. With --check-own so does \
+            an edit in either of them that the other made and lacks.\n\
             Document 1 of the input ends at the first LF, and all after it is document 2.\n\
             Example: cat three.json tokyo.json | lexicat sync > both.json",
-    )
-    .arg(arguments::not_after(alloc))
+    );
+    arguments::with_checks(alloc, command)
 }
 
-/// `merge [--not-after N]`
+/// `merge [--not-after N] [--check-own]`
 fn merge<'a>(alloc: Global) -> Result<Command<'a>, AllocError>
     ensures { IfOk result (IsCommand merge_app) }
 {
-    reading(
+    let command = reading(
         alloc,
         "merge",
         "cat SITE OTHER.. | lexicat merge [OPTIONS]",
         "Merges any number of sites into the first of them",
         "Reads one site document or more, each on one line, and prints the first after it took the \
             cells of all others in their order. With --not-after a later time in another than the \
-            first refuses the whole.\n\
+            first refuses the whole. With --check-own so does an edit in another than the first \
+            that the first made and lacks.\n\
             Document 1 is the first line of the input, document 2 the second, and so on; a LF at \
             the end begins no further one.\n\
             Example: cat three.json both.json | lexicat merge > merged.json",
-    )
-    .arg(arguments::not_after(alloc))
+    );
+    arguments::with_checks(alloc, command)
 }
 
 /// `explain NUMBER`

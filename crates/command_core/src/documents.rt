@@ -1,4 +1,5 @@
-//! The commands of several documents, with a number at most, `--now` or `--not-after`.
+//! The commands of several documents, with a moment, `--now`, or with what they test of what comes
+//! in.
 ghost use Rattle.std.specs.Prelude.{◌≡◌, false, MatchResult};
 ghost use Rattle.json_docs.specs.FaultChecks.{OrMemory};
 ghost use Rattle.row_docs.specs.Reading.{no_memory};
@@ -10,21 +11,21 @@ ghost use Rattle.command_core.specs.TaskWords.{Changes, Document};
 
 use crate::output::Answered;
 use docs_core::{
-    Doc, DocFault, Source, changes_document, delta_document, import_document, merge_documents,
-    read_all, take_document_until, two_documents, update_document,
+    Checks, Doc, DocFault, Source, changes_document, delta_document, import_document,
+    merge_documents, read_all, take_document, two_documents, update_document,
 };
 use front_core::{Answer, Outcome};
 use std::alloc::Global;
 
-/// A command that reads several documents, with its moment where it edits, and with the latest time
-/// that it takes, where there is one.
+/// A command that reads several documents, with its moment where it edits, and with what it tests
+/// where it joins.
 #[derive(Clone, Copy)]
 pub(crate) enum DocumentTask {
     Import(u64),
     Update(u64),
     Delta,
-    Take(Option<u64>),
-    Merge(Option<u64>),
+    Take(Checks),
+    Merge(Checks),
 }
 
 /// What answers the documents of the input.
@@ -76,10 +77,10 @@ fn document_of(alloc: Global, task: DocumentTask, input: &[u8]) -> Result<Doc, D
             let (site, summary) = two_documents(input);
             delta_document(alloc, site, summary)
         }
-        DocumentTask::Take(not_after) => {
+        DocumentTask::Take(checks) => {
             let (site, delta) = two_documents(input);
-            take_document_until(alloc, site, delta, not_after)
+            take_document(alloc, site, delta, checks)
         }
-        DocumentTask::Merge(not_after) => merge_documents(alloc, input, not_after),
+        DocumentTask::Merge(checks) => merge_documents(alloc, input, checks),
     }
 }

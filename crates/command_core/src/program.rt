@@ -22,9 +22,9 @@ use std::convert::AsStr;
 static SCHEMES: [&str; 2] = ["basic", "extended"];
 
 /// The numbers that `explain` takes.
-static NUMBERS: [&str; 29] = [
+static NUMBERS: [&str; 30] = [
     "1", "2", "3", "4", "5", "6", "7", "8", "9", "10", "11", "12", "13", "14", "15", "16", "17",
-    "18", "19", "20", "21", "22", "23", "24", "25", "26", "27", "28", "29",
+    "18", "19", "20", "21", "22", "23", "24", "25", "26", "27", "28", "29", "30",
 ];
 
 /// Runs the program on the arguments after its name, and gives its status. `help` is `--help`, and

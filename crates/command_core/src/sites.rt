@@ -11,7 +11,7 @@ use crate::fault_line::refuse;
 use crate::output::{Answered, print_both};
 use cata_core::Site;
 use cell_core::SiteName;
-use docs_core::{Doc, Sink, Source, read_all, sync_documents_until, two_documents, write_site};
+use docs_core::{Checks, Doc, Sink, Source, read_all, sync_documents, two_documents, write_site};
 use front_core::{Answer, FrontFault, Outcome};
 use std::alloc::Global;
 
@@ -26,23 +26,22 @@ pub(crate) fn new_site(alloc: Global, name: &str) -> Answered
     Ok(Answer::new(text, Outcome::Found))
 }
 
-/// Prints both sites of the input after their sync, or reports the refusal. A time after the limit
-/// is refused, where there is one.
+/// Prints both sites of the input after their sync, or reports the refusal.
 pub(crate) fn sync<R: Source, W: Sink, F: Sink>(
     alloc: Global,
-    not_after: Option<u64>,
+    checks: Checks,
     reader: &mut R,
     writer: &mut W,
     faults: &mut F,
 ) -> u8
     requires reads { R.failed reader.old ≡ false }
     requires writes { W.failed writer.old ≡ false }
-    ensures acts { Treats (Sync not_after) (streams
+    ensures acts { Treats (Sync checks) (streams
         (reads R.remaining R.failed reader.old reader.new)
         (writes W.contents W.failed writer.old writer.new)
         (writes F.contents F.failed faults.old faults.new)) result }
 {
-    match synced(alloc, not_after, reader) {
+    match synced(alloc, checks, reader) {
         Ok((first, second)) => print_both(&first, &second, writer, faults),
         Err(fault) => refuse(faults, fault),
     }
@@ -51,18 +50,18 @@ pub(crate) fn sync<R: Source, W: Sink, F: Sink>(
 /// Both sites of the input after their sync.
 fn synced<R: Source>(
     alloc: Global,
-    not_after: Option<u64>,
+    checks: Checks,
     reader: &mut R,
 ) -> Result<(Doc, Doc), FrontFault>
     requires { R.failed reader.old ≡ false }
     ensures { MatchResult result
-        (λ texts. AnswersInput (IsSync not_after)
+        (λ texts. AnswersInput (IsSync checks)
         (reads R.remaining R.failed reader.old reader.new) (texts.0 ++ texts.1) 0)
-        (RefusesInput NoWords RefusesNothing (RefusesSync not_after)
+        (RefusesInput NoWords RefusesNothing (RefusesSync checks)
         (reads R.remaining R.failed reader.old reader.new)) }
 {
     let input = read_all(alloc, reader)?;
     let (first, second) = two_documents(input.bytes());
-    let texts = sync_documents_until(alloc, first, second, not_after)?;
+    let texts = sync_documents(alloc, first, second, checks)?;
     Ok(texts)
 }

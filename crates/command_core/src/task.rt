@@ -8,7 +8,7 @@ ghost use Rattle.command_core.specs.TaskEditWords.{edit_words};
 ghost use Rattle.command_core.specs.TaskFieldWords as spec;
 ghost use Rattle.command_core.specs.OutputStreams.{reads, streams, writes};
 ghost use Rattle.command_core.specs.TaskWords.{Edit, GivesNumber, GivesNumbers, GivesTask};
-ghost use Rattle.command_core.specs.TaskWords.{Replay, pick_task};
+ghost use Rattle.command_core.specs.TaskWords.{Replay, checks_words, own_edits_of, pick_task};
 ghost use Rattle.command_core.specs.TaskValues.{preference_values, task_values};
 
 use crate::documents::DocumentTask;
@@ -19,7 +19,7 @@ use crate::output::finish;
 use crate::questions::ask;
 use crate::{documents, edits, explaining, sites, status};
 use clap::ArgMatches;
-use docs_core::{Sink, Source};
+use docs_core::{Checks, OwnEdits, Sink, Source};
 use front_core::words::{filter_answer, pick_answer};
 use front_core::{Field, Filter, FrontFault, Lookup, Missing, Outdated, Preferences, View};
 use nego_core::{Malformed, Scheme, Widening};
@@ -73,7 +73,7 @@ enum Task<'m, 'a> {
     Filter(&'a [u8], Field<'a>),
     Lookup(&'a [u8], PreferenceValues<'a>),
     Bundle(PreferenceValues<'a>),
-    Sync(Option<u64>),
+    Sync(Checks),
     Replay,
     Explain(Explained),
 }
@@ -136,9 +136,9 @@ fn task_of<'m, 'a>(name: &str, matches: &'m ArgMatches<'a>) -> Option<Task<'m, '
         "bundle" => Some(Task::Bundle(preferences_of(matches, "field")?)),
         "summary" => Some(Task::View(View::Summary)),
         "delta" => Some(Task::Document(DocumentTask::Delta)),
-        "take" => Some(Task::Document(DocumentTask::Take(numbers.not_after))),
-        "sync" => Some(Task::Sync(numbers.not_after)),
-        "merge" => Some(Task::Document(DocumentTask::Merge(numbers.not_after))),
+        "take" => Some(Task::Document(DocumentTask::Take(checks_of(numbers.not_after, matches)))),
+        "sync" => Some(Task::Sync(checks_of(numbers.not_after, matches))),
+        "merge" => Some(Task::Document(DocumentTask::Merge(checks_of(numbers.not_after, matches)))),
         "replay" => Some(Task::Replay),
         "explain" => Some(Task::Explain(refusal_of(numbers.number)?)),
         _ => None,
@@ -203,6 +203,17 @@ fn numbers_of(matches: &ArgMatches<'_>) -> Numbers
         now: number_of(matches, "now"),
         not_after: number_of(matches, "not-after"),
         number: number_of(matches, "number"),
+    }
+}
+
+/// What an exchange tests, by the limit on times and `--check-own`.
+fn checks_of(not_after: Option<u64>, matches: &ArgMatches<'_>) -> Checks
+    ensures { result ≡ checks_words not_after (rows_of (found_of matches.now)) }
+{
+    let own_edits = own_edits_of(is_given(matches, "check-own"));
+    Checks {
+        not_after,
+        own_edits,
     }
 }
 
@@ -298,6 +309,17 @@ fn malformed_of(is_lenient: bool) -> Malformed
     }
 }
 
+/// Whether edits of the site's own are looked for.
+fn own_edits_of(is_checked: bool) -> OwnEdits
+    ensures { result ≡ own_edits_of is_checked }
+{
+    if is_checked {
+        OwnEdits::Checked
+    } else {
+        OwnEdits::Unchecked
+    }
+}
+
 /// Does the task, and gives the status.
 fn perform<R: Source, W: Sink, F: Sink>(
     alloc: Global,
@@ -334,7 +356,7 @@ fn perform<R: Source, W: Sink, F: Sink>(
             let asked = Preferences::read(alloc, values.field, values.default);
             ask(alloc, asked, reader)
         }
-        Task::Sync(not_after) => return sites::sync(alloc, not_after, reader, writer, faults),
+        Task::Sync(checks) => return sites::sync(alloc, checks, reader, writer, faults),
         Task::Replay => return replay(alloc, reader, writer, faults),
         Task::Explain(it) => explaining::answer_of(alloc, it),
     };

@@ -1,6 +1,6 @@
 -- Each call on documents answers or refuses, and refuses by one fault.
 use Rattle.std.proofs.Common.{◌≡◌, ◌∙◌, ℕ, List, [], ◌∷◌, ap, inl, inr, refl, subst, sym}
-use Rattle.std.specs.Prelude.{◌≢◌, ◌⊎◌, Bool, None, Option}
+use Rattle.std.specs.Prelude.{◌≢◌, ◌⊎◌, Bool, Option}
 use Rattle.std.specs.declared.cmp.Ordering.{Ordering}
 use Rattle.std.specs.declared.cmp.Ordering.TheVariants.{Equal, Greater, Less}
 use Rattle.std.specs.Ordering.{ordering_reverse}
@@ -8,16 +8,14 @@ use Rattle.cell_core.specs.Cell.{stamp_cmp_exact, stamp_cmp_total}
 use Rattle.cell_core.specs.Keyed.{IsMap}
 use Rattle.cell_core.specs.Stamp.{IsNext, stamp_cmp}
 use Rattle.cell_core.specs.declared.stamp.Stamp.{Stamp}
-use Rattle.catalogue.specs.CataFault.{IsRefusal}
 use Rattle.cell_core.specs.Entry.{EntryKey, key_cmp}
 use Rattle.catalogue.specs.Entries.{Agree, Entries}
-use Rattle.cata_core.specs.Site.{RefusesDelta as NotTaken, RefusesEdit, SiteState}
+use Rattle.cata_core.specs.Site.{RefusesEdit, SiteState}
 use Rattle.cata_core.specs.Summary.{SummaryState}
 use Rattle.catalogue.specs.declared.cata_fault.CataFault.{CataFault}
 use Rattle.catalogue.specs.declared.cata_fault.CataFault.TheVariants as cata
 use Rattle.cata_core.specs.declared.delta.Delta.{Delta as DeltaState}
 use Rattle.catalogue.specs.CatalogueLatest.{latest_of}
-use Rattle.catalogue.proofs.ClashLemmas.{clash_not_agree}
 use Rattle.json_docs.specs.Faults.{of_no_document, of_site}
 use Rattle.json_docs.specs.declared.fault.DocFault.{DocFault}
 use Rattle.row_docs.specs.Reading.{IsOfDocument}
@@ -32,23 +30,23 @@ use Rattle.map_docs.specs.MapsLabels.{AreLangMaps, ReadsAsLangMaps, RefusesLangM
 use Rattle.map_docs.specs.Maps.{Labelled}
 use Rattle.query_docs.specs.Changes.{IsChanged, RefusesChanged}
 use Rattle.docs_core.specs.Calls.{AreSynced, IsDeltaFor, IsEdited, IsOfSite, IsTaken}
-use Rattle.docs_core.specs.Calls.{RefusesDeltaFor, RefusesEditing, RefusesSync, RefusesTaking}
+use Rattle.docs_core.specs.Calls.{RefusesDeltaFor, RefusesEditing, RefusesJoin, RefusesSync}
+use Rattle.docs_core.specs.Calls.{RefusesTaken, RefusesTaking}
+use Rattle.site_docs.specs.Checks.{IsAheadOfBoth, LacksNoOwn, ReadsInTime, RefusesDeltaUntil}
+use Rattle.site_docs.specs.declared.checks.Checks.{Checks}
+use Rattle.site_docs.specs.declared.checks.OwnEdits.{OwnEdits}
 use Rattle.docs_core.specs.Importing.{IsImported, RefusesImport}
 use Rattle.docs_core.specs.ImportingLabels.{puts_of}
 use Rattle.docs_core.specs.UpdatingChanges.{Change, Makes, SpendsClock, with_change}
-use Rattle.docs_core.specs.TimeLimits.{AreSyncedUntil, IsAheadOfBoth, IsTakenUntil}
-use Rattle.site_docs.specs.RowsInTime.{AreInTime}
-use Rattle.docs_core.specs.TimeLimits.{ReadsInTime, RefusesDeltaUntil}
-use Rattle.site_docs.specs.RowsInTime.{IsTimeAhead}
-use Rattle.docs_core.specs.TimeLimits.{RefusesSyncUntil, RefusesTakingUntil}
+use Rattle.site_docs.specs.RowsInTime.{AreInTime, IsTimeAhead}
 use Rattle.docs_core.specs.Updating.{AreChanges, IsUpdated, RefusesUpdate, SpendsUpdate}
-use Rattle.docs_core.proofs.CallRefusals.{ahead_not_in_time, cells_not_refused}
-use Rattle.docs_core.proofs.CallRefusals.{one_ahead, one_cell_cause, one_of_cells}
+use Rattle.docs_core.proofs.CallRefusals.{ahead_not_in_time, cells_not_refused, join_not_refused}
+use Rattle.docs_core.proofs.CallRefusals.{missing_not_held, one_join, one_missing}
+use Rattle.docs_core.proofs.CallRefusals.{one_ahead, one_of_cells}
 use Rattle.docs_core.proofs.CallRefusals.{one_of_document, one_of_site_call, one_of_site_document}
 use Rattle.docs_core.proofs.CallRefusals.{site_not_refused, site_ascends}
 use Rattle.docs_core.proofs.SitesOneRefusal.{cells_named, langmaps, one_cause, read_not_refused}
 use Rattle.docs_core.proofs.SitesOneRefusal.{stamps_named}
-use Rattle.docs_core.proofs.TimeLimitsLemmas.{synced_same, taken_same}
 use Rattle.docs_core.proofs.UpdatingLaws.{one_list}
 use Rattle.map_docs.proofs.MapsLawsLemmas.{same_labels}
 
@@ -150,11 +148,13 @@ one_edit bytes now x y p q = elim p [
 
 -- ---- syncs
 
--- what is synced under a limit is not refused
-pub sync_not_refused : (a b : List ℕ) (limit : Option ℕ) (x y : List ℕ) (fault : DocFault)
-    → AreSyncedUntil a b limit x y → RefusesSyncUntil a b limit fault → ⊥
-sync_not_refused a b limit x y fault
-    (first, second, reads, second_reads, in_time, second_in_time, agree, is, second_is) why =
+-- what is synced is not refused
+pub sync_not_refused : (checks : Checks) (a b x y : List ℕ) (fault : DocFault)
+    → AreSynced checks a b x y → RefusesSync checks a b fault → ⊥
+sync_not_refused checks a b x y fault
+    (first, second, reads, second_reads, in_time, second_in_time, none, agree, is, second_is) why =
+    let limit = checks.not_after in
+    let own = checks.own_edits in
     let same_first : (s : SiteState) → ReadsAsSite a s → s ≡ first =
     λ s r. one_site a s first r reads in
     let same_second : (s : SiteState) → ReadsAsSite b s → s ≡ second =
@@ -172,11 +172,11 @@ sync_not_refused a b limit x y fault
                 | inr two ↦
                     ahead_not_in_time 2 limit second.cells fault second_in_time two.1
               ]
-          | inr (f, s, r, t, u, v, clash) ↦ cells_not_refused first.cells second.cells fault agree
+          | inr (f, s, r, t, u, v, clash) ↦ join_not_refused own first second fault none agree
               (site_ascends b second second_reads)
-              (subst (λ (z : SiteState). IsOfSite (IsRefusal first.cells z.cells) fault)
+              (subst (λ (z : SiteState). RefusesJoin own first z fault)
               (same_second s t) (subst (λ (z : SiteState).
-              IsOfSite (IsRefusal z.cells s.cells) fault) (same_first f r) clash))
+              RefusesJoin own z s fault) (same_first f r) clash))
         ]
       ]
     ]
@@ -203,36 +203,36 @@ both_in_time limit first second fault a b why = elim why as (λ _. ⊥) [
 ]
 
 -- why two sites that were read are not synced
-abbrev RefusesBoth : Option ℕ → SiteState → SiteState → DocFault → Type 0
-RefusesBoth limit first second fault =
-    IsAheadOfBoth limit first.cells second.cells fault
-    ⊎ (AreInTime limit first.cells × AreInTime limit second.cells
-    × IsOfSite (IsRefusal first.cells second.cells) fault)
+abbrev RefusesBoth : Checks → SiteState → SiteState → DocFault → Type 0
+RefusesBoth checks first second fault =
+    IsAheadOfBoth checks.not_after first.cells second.cells fault
+    ⊎ (AreInTime checks.not_after first.cells × AreInTime checks.not_after second.cells
+    × RefusesJoin checks.own_edits first second fault)
 
-one_both : (limit : Option ℕ) (first second : SiteState) (x y : DocFault)
-    → RefusesBoth limit first second x → RefusesBoth limit first second y → x ≡ y
-one_both limit first second x y p q = elim p [
+one_both : (checks : Checks) (first second : SiteState) (x y : DocFault)
+    → RefusesBoth checks first second x → RefusesBoth checks first second y → x ≡ y
+one_both checks first second x y p q = elim p [
   | inl a ↦ elim q [
-    | inl b ↦ one_ahead_of_both limit first.cells second.cells x y a b
-    | inr b ↦ absurd (both_in_time limit first.cells second.cells x b.0 b.1 a)
+    | inl b ↦ one_ahead_of_both checks.not_after first.cells second.cells x y a b
+    | inr b ↦ absurd (both_in_time checks.not_after first.cells second.cells x b.0 b.1 a)
   ]
   | inr a ↦ elim q [
-    | inl b ↦ absurd (both_in_time limit first.cells second.cells y a.0 a.1 b)
-    | inr b ↦ one_of_cells first.cells second.cells x y a.2 b.2
+    | inl b ↦ absurd (both_in_time checks.not_after first.cells second.cells y a.0 a.1 b)
+    | inr b ↦ one_join checks.own_edits first second x y a.2 b.2
   ]
 ]
 
 -- by three stages: the first document, the second, and both sites
-abbrev Stages : List ℕ → List ℕ → Option ℕ → DocFault → Type 0
-Stages a b limit fault =
+abbrev Stages : Checks → List ℕ → List ℕ → DocFault → Type 0
+Stages checks a b fault =
     IsOfDocument 1 (RefusesSite a) fault
     ⊎ (((first : SiteState) × ReadsAsSite a first × IsOfDocument 2 (RefusesSite b) fault)
     ⊎ ((first second : SiteState) × ReadsAsSite a first × ReadsAsSite b second
-    × RefusesBoth limit first second fault))
+    × RefusesBoth checks first second fault))
 
-in_stages : (a b : List ℕ) (limit : Option ℕ) (fault : DocFault)
-    → RefusesSyncUntil a b limit fault → Stages a b limit fault
-in_stages a b limit fault why = elim why [
+in_stages : (checks : Checks) (a b : List ℕ) (fault : DocFault) → RefusesSync checks a b fault
+    → Stages checks a b fault
+in_stages checks a b fault why = elim why [
   | inl one ↦ inl one
   | inr later ↦ elim later [
     | inl two ↦ inr (inl two)
@@ -243,9 +243,9 @@ in_stages a b limit fault why = elim why [
   ]
 ]
 
-one_stage : (a b : List ℕ) (limit : Option ℕ) (x y : DocFault) → Stages a b limit x
-    → Stages a b limit y → x ≡ y
-one_stage a b limit x y p q = elim p [
+one_stage : (checks : Checks) (a b : List ℕ) (x y : DocFault) → Stages checks a b x
+    → Stages checks a b y → x ≡ y
+one_stage checks a b x y p q = elim p [
   | inl one ↦ elim q [
     | inl other ↦ one_of_site_document 1 a x y one other
     | inr later ↦ elim later [
@@ -265,45 +265,20 @@ one_stage a b limit x y p q = elim p [
       | inl other ↦ absurd (site_not_refused 1 a s y reads other)
       | inr more ↦ elim more [
         | inl (u, again, other) ↦ absurd (site_not_refused 2 b t y seen other)
-        | inr (u, v, again, there, other) ↦ one_both limit s t x y both
-            (subst (λ (z : SiteState). RefusesBoth limit s z y) (one_site b v t there seen)
-            (subst (λ (z : SiteState). RefusesBoth limit z v y) (one_site a u s again reads)
+        | inr (u, v, again, there, other) ↦ one_both checks s t x y both
+            (subst (λ (z : SiteState). RefusesBoth checks s z y) (one_site b v t there seen)
+            (subst (λ (z : SiteState). RefusesBoth checks z v y) (one_site a u s again reads)
             other))
       ]
     ]
   ]
 ]
 
--- a sync under a limit is refused by one fault
-pub one_sync : (a b : List ℕ) (limit : Option ℕ) (x y : DocFault) → RefusesSyncUntil a b limit x
-    → RefusesSyncUntil a b limit y → x ≡ y
-one_sync a b limit x y p q =
-    one_stage a b limit x y (in_stages a b limit x p) (in_stages a b limit y q)
-
--- without a limit
-
-sync_until_none : (a b : List ℕ) (fault : DocFault) → RefusesSync a b fault
-    → RefusesSyncUntil a b None fault
-sync_until_none a b fault why = elim why [
-  | inl one ↦ inl one
-  | inr later ↦ elim later [
-    | inl two ↦ inr (inl two)
-    | inr (f, s, r, t, clash) ↦ inr (inr (inr (f, s, r, t, tt, tt, clash)))
-  ]
-]
-
--- what is synced is not refused
-pub plain_sync_not_refused : (a b x y : List ℕ) (fault : DocFault) → AreSynced a b x y
-    → RefusesSync a b fault → ⊥
-plain_sync_not_refused a b x y fault synced why =
-    sync_not_refused a b None x y fault ((synced_same a b None x y).1 (synced, λ s either. tt))
-    (sync_until_none a b fault why)
-
 -- a sync is refused by one fault
-pub one_plain_sync : (a b : List ℕ) (x y : DocFault) → RefusesSync a b x → RefusesSync a b y
-    → x ≡ y
-one_plain_sync a b x y p q =
-    one_sync a b None x y (sync_until_none a b x p) (sync_until_none a b y q)
+pub one_sync : (checks : Checks) (a b : List ℕ) (x y : DocFault) → RefusesSync checks a b x
+    → RefusesSync checks a b y → x ≡ y
+one_sync checks a b x y p q =
+    one_stage checks a b x y (in_stages checks a b x p) (in_stages checks a b y q)
 
 -- ---- deltas that are taken
 
@@ -333,53 +308,71 @@ one_delta_until number limit bytes x y p q = elim p [
   ]
 ]
 
-taken_not_refused : (site : SiteState) (delta : DeltaState) (fault : DocFault)
-    → IsMap key_cmp site.cells → site.name ≡ delta.addressee → Agree site.cells delta.cells
-    → IsOfSite (NotTaken site delta) fault → ⊥
-taken_not_refused site delta fault ascends mine agree
-    (cata.StampReused place stamp, apart, why, is) =
-    clash_not_agree site.cells delta.cells place stamp ascends why.1 agree
-taken_not_refused site delta fault ascends mine agree (cata.ClockSpent, apart, why, is) = why.1
-taken_not_refused site delta fault ascends mine agree (cata.NotForMe addressee, apart, why, is) =
-    why.1 mine
-taken_not_refused site delta fault ascends mine agree (cata.NoMemory, apart, why, is) = apart refl
+taken_not_refused : (own : OwnEdits) (site : SiteState) (delta : DeltaState) (fault : DocFault)
+    → IsMap key_cmp site.cells → site.name ≡ delta.addressee → LacksNoOwn own site delta.cells
+    → Agree site.cells delta.cells → RefusesTaken own site delta fault → ⊥
+taken_not_refused own site delta fault ascends mine none agree why = elim why as (λ _. ⊥) [
+  | inl other ↦ other.0 mine
+  | inr later ↦ elim later as (λ _. ⊥) [
+    | inl missing ↦ missing_not_held 2 own site delta.cells fault none missing.1
+    | inr clash ↦ cells_not_refused site.cells delta.cells fault agree
+        (elim agree as (λ _. IsMap key_cmp delta.cells) [
+          | inl same ↦ subst (IsMap key_cmp) same ascends
+          | inr maps ↦ maps.second
+        ]) clash.2
+  ]
+]
 
-one_taken_cause : (site : SiteState) (delta : DeltaState) (a b : CataFault) → a ≢ cata.NoMemory
-    → b ≢ cata.NoMemory → NotTaken site delta a → NotTaken site delta b → a ≡ b
-one_taken_cause site delta (cata.NotForMe m) (cata.NotForMe n) first second x y =
-    λ i. cata.NotForMe ((x.0 ∙ sym y.0) i)
-one_taken_cause site delta (cata.StampReused p s) (cata.StampReused q t) first second x y =
-    one_cell_cause site.cells delta.cells (cata.StampReused p s) (cata.StampReused q t) first second
-    x.1 y.1
-one_taken_cause site delta cata.NoMemory b first second x y = absurd (first refl)
-one_taken_cause site delta a cata.NoMemory first second x y = absurd (second refl)
-one_taken_cause site delta cata.ClockSpent b first second x y = absurd x.1
-one_taken_cause site delta (cata.StampReused p s) cata.ClockSpent first second x y = absurd y.1
-one_taken_cause site delta (cata.NotForMe m) cata.ClockSpent first second x y = absurd y.1
-one_taken_cause site delta (cata.StampReused p s) (cata.NotForMe n) first second x y =
-    absurd (y.1 x.0)
-one_taken_cause site delta (cata.NotForMe m) (cata.StampReused q t) first second x y =
-    absurd (x.1 y.0)
+one_taken : (own : OwnEdits) (site : SiteState) (delta : DeltaState) (x y : DocFault)
+    → RefusesTaken own site delta x → RefusesTaken own site delta y → x ≡ y
+one_taken own site delta x y p q = elim p [
+  | inl a ↦ elim q [
+    | inl b ↦ a.1 ∙ sym b.1
+    | inr later ↦ absurd (a.0 (elim later as (λ _. site.name ≡ delta.addressee) [
+      | inl b ↦ b.0
+      | inr b ↦ b.0
+    ]))
+  ]
+  | inr first ↦ elim first [
+    | inl a ↦ elim q [
+      | inl b ↦ absurd (b.0 a.0)
+      | inr later ↦ elim later [
+        | inl b ↦ one_missing 2 own site delta.cells x y a.1 b.1
+        | inr b ↦ absurd (missing_not_held 2 own site delta.cells x b.1 a.1)
+      ]
+    ]
+    | inr a ↦ elim q [
+      | inl b ↦ absurd (b.0 a.0)
+      | inr later ↦ elim later [
+        | inl b ↦ absurd (missing_not_held 2 own site delta.cells y a.1 b.1)
+        | inr b ↦ one_of_cells site.cells delta.cells x y a.2 b.2
+      ]
+    ]
+  ]
+]
 
--- what is taken under a limit is not refused
-pub take_not_refused : (a b : List ℕ) (limit : Option ℕ) (text : List ℕ) (fault : DocFault)
-    → IsTakenUntil a b limit text → RefusesTakingUntil a b limit fault → ⊥
-take_not_refused a b limit text fault (site, delta, reads, timely, mine, agree, is) why =
+-- what is taken is not refused
+pub take_not_refused : (checks : Checks) (a b text : List ℕ) (fault : DocFault)
+    → IsTaken checks a b text → RefusesTaking checks a b fault → ⊥
+take_not_refused checks a b text fault (site, delta, reads, timely, mine, none, agree, is) why =
+    let own = checks.own_edits in
     elim why as (λ _. ⊥) [
       | inl refused ↦ site_not_refused 1 a site fault reads refused
       | inr later ↦ elim later as (λ _. ⊥) [
-        | inl (s, r, refused) ↦ delta_in_time_not_refused 2 limit b delta fault timely refused
-        | inr (s, d, r, t, clash) ↦ taken_not_refused site delta fault (site_ascends a site reads)
-            mine agree (subst (λ (e : DeltaState). IsOfSite (NotTaken site e) fault)
+        | inl (s, r, refused) ↦
+            delta_in_time_not_refused 2 checks.not_after b delta fault timely refused
+        | inr (s, d, r, t, clash) ↦ taken_not_refused own site delta fault
+            (site_ascends a site reads) mine none agree
+            (subst (λ (e : DeltaState). RefusesTaken own site e fault)
             (one_delta b d delta t.0 timely.0) (subst (λ (z : SiteState).
-            IsOfSite (NotTaken z d) fault) (one_site a s site r reads) clash))
+            RefusesTaken own z d fault) (one_site a s site r reads) clash))
       ]
     ]
 
--- a take under a limit is refused by one fault
-pub one_take : (a b : List ℕ) (limit : Option ℕ) (x y : DocFault)
-    → RefusesTakingUntil a b limit x → RefusesTakingUntil a b limit y → x ≡ y
-one_take a b limit x y p q = elim p [
+-- a take is refused by one fault
+pub one_take : (checks : Checks) (a b : List ℕ) (x y : DocFault) → RefusesTaking checks a b x
+    → RefusesTaking checks a b y → x ≡ y
+one_take checks a b x y p q = let limit = checks.not_after in elim p [
   | inl one ↦ elim q [
     | inl other ↦ one_of_site_document 1 a x y one other
     | inr later ↦ elim later [
@@ -400,38 +393,14 @@ one_take a b limit x y p q = elim p [
       | inl other ↦ absurd (site_not_refused 1 a s y reads other)
       | inr more ↦ elim more [
         | inl (t, again, other) ↦ absurd (delta_in_time_not_refused 2 limit b d y timely other)
-        | inr (t, e, again, once, other) ↦
-            one_of_site_call (NotTaken s d) (one_taken_cause s d) x y clash
-            (subst (λ (f : DeltaState). IsOfSite (NotTaken s f) y)
+        | inr (t, e, again, once, other) ↦ one_taken checks.own_edits s d x y clash
+            (subst (λ (f : DeltaState). RefusesTaken checks.own_edits s f y)
             (one_delta b e d once.0 timely.0) (subst (λ (z : SiteState).
-            IsOfSite (NotTaken z e) y) (one_site a t s again reads) other))
+            RefusesTaken checks.own_edits z e y) (one_site a t s again reads) other))
       ]
     ]
   ]
 ]
-
-take_until_none : (a b : List ℕ) (fault : DocFault) → RefusesTaking a b fault
-    → RefusesTakingUntil a b None fault
-take_until_none a b fault why = elim why [
-  | inl one ↦ inl one
-  | inr later ↦ elim later [
-    | inl (s, reads, two) ↦ inr (inl (s, reads, inl two))
-    | inr (s, d, reads, seen, clash) ↦ inr (inr (s, d, reads, (seen, tt), clash))
-  ]
-]
-
--- what is taken is not refused
-pub plain_take_not_refused : (a b text : List ℕ) (fault : DocFault) → IsTaken a b text
-    → RefusesTaking a b fault → ⊥
-plain_take_not_refused a b text fault taken why =
-    take_not_refused a b None text fault ((taken_same a b None text).1 (taken, λ d reads. tt))
-    (take_until_none a b fault why)
-
--- a take is refused by one fault
-pub one_plain_take : (a b : List ℕ) (x y : DocFault) → RefusesTaking a b x → RefusesTaking a b y
-    → x ≡ y
-one_plain_take a b x y p q =
-    one_take a b None x y (take_until_none a b x p) (take_until_none a b y q)
 
 -- ---- deltas that are made, and changes
 

@@ -8,14 +8,15 @@ use Rattle.std.proofs.lemmas.List.Elements.{All-head, All-tail}
 use Rattle.cell_core.specs.Keyed.{IsMap}
 use Rattle.catalogue.specs.CataFault.{IsRefusal}
 use Rattle.cell_core.specs.Entry.{key_cmp}
-use Rattle.catalogue.specs.Entries.{Agree, Entries}
+use Rattle.catalogue.specs.Entries.{Agree, Entries, Entry}
+use Rattle.cata_core.specs.OwnEdits.{IsLackedEdit}
 use Rattle.cata_core.specs.Site.{SiteState}
 use Rattle.catalogue.specs.declared.cata_fault.CataFault.{CataFault}
 use Rattle.catalogue.specs.declared.cata_fault.CataFault.TheVariants as cata
 use Rattle.catalogue.proofs.ClashLemmas.{clash_is_one, clash_not_agree}
 use Rattle.json_docs.specs.Faults.{of_document, of_no_document, of_site}
 use Rattle.json_docs.specs.declared.fault.DocCause.{DocCause}
-use Rattle.json_docs.specs.declared.fault.DocCause.TheVariants.{TimeAhead}
+use Rattle.json_docs.specs.declared.fault.DocCause.TheVariants.{OwnEditMissing, TimeAhead}
 use Rattle.json_docs.specs.declared.fault.DocFault.{DocFault}
 use Rattle.row_docs.specs.Headers.{rows_in, version_of}
 use Rattle.row_docs.specs.Reading.{IsOfDocument}
@@ -24,8 +25,11 @@ use Rattle.row_docs.specs.declared.kind.Kind.TheVariants as kind
 use Rattle.row_docs.proofs.AscendingKeys.{cells_ascend}
 use Rattle.site_docs.specs.Reading.{ReadsAsSite, RefusesSite}
 use Rattle.site_docs.specs.SiteDocuments.{IsSiteDocument, site_checks}
-use Rattle.docs_core.specs.Calls.{IsOfSite}
-use Rattle.site_docs.specs.RowsInTime.{AreInTime, IsFirstAhead, IsInTime, IsTimeAhead}
+use Rattle.docs_core.specs.Calls.{IsOfSite, RefusesJoin}
+use Rattle.site_docs.specs.RowsInTime.{AreInTime, IsInTime, IsTimeAhead}
+use Rattle.site_docs.specs.Checks.{IsOwnMissing, IsOwnMissingOfBoth, LackNoOwn, LacksNoOwn}
+use Rattle.site_docs.specs.declared.checks.OwnEdits.{OwnEdits}
+use Rattle.site_docs.specs.declared.checks.OwnEdits.TheVariants.{Checked, Unchecked}
 use Rattle.docs_core.proofs.MigrationSitesLemmas.{document_rows}
 use Rattle.docs_core.proofs.SitesOneRefusal.{cells_named, one_cause, read_not_refused}
 
@@ -76,33 +80,65 @@ ahead_not_in_time number (Some limit) cells fault all (row, first, is) =
     let late = first.is_ahead in
     absurd (omega (arith, in_time, late))
 
--- no row before the first is ahead
-not_before : (cells : Entries) (limit row later : ℕ) → IsFirstAhead cells limit row
-    → IsFirstAhead cells limit later → row < later → ⊥
-not_before cells limit row later a b less =
-    let at = a.row_is in
-    let place = b.row_is in
-    let inside : length a.before < length b.before = omega (arith, at, place, less) in
-    let here : get_or cells (length a.before) a.ahead ≡ a.ahead =
-    ap (λ (es : Entries). get_or es (length a.before) a.ahead) a.cells_are
-    ∙ get_or-append_seam a.before a.ahead a.after a.ahead in
-    let there : get_or cells (length a.before) a.ahead ≡ get_or b.before (length a.before) a.ahead =
-    ap (λ (es : Entries). get_or es (length a.before) a.ahead) b.cells_are
-    ∙ get_or_append_left b.before (b.ahead ∷ b.after) a.ahead (length a.before) inside in
-    let in_time = subst (IsInTime limit) (sym there ∙ here)
-    (b.in_time (length a.before) a.ahead inside) in
-    let late = a.is_ahead in
-    absurd (omega (arith, in_time, late))
+-- what is true of all before one item is not false of an item among them
+not_before : {X : Type 0} (Good : X → Type 0) (xs a : List X) (x : X) (after b : List X) (y : X)
+    (later : List X) → xs ≡ a ++ x ∷ after → xs ≡ b ++ y ∷ later → All Good b → ¬ (Good x)
+    → length a < length b → ⊥
+not_before {X = X} Good xs a x after b y later is same good bad inside =
+    let here : get_or xs (length a) x ≡ x =
+    ap (λ (es : List X). get_or es (length a) x) is ∙ get_or-append_seam a x after x in
+    let there : get_or xs (length a) x ≡ get_or b (length a) x =
+    ap (λ (es : List X). get_or es (length a) x) same
+    ∙ get_or_append_left b (y ∷ later) x (length a) inside in
+    bad (subst Good (sym there ∙ here) (good (length a) x inside))
+
+-- the first item of which it is false is at one place
+one_place : {X : Type 0} (Good : X → Type 0) (xs a : List X) (x : X) (after b : List X) (y : X)
+    (later : List X) → xs ≡ a ++ x ∷ after → xs ≡ b ++ y ∷ later → All Good a → All Good b
+    → ¬ (Good x) → ¬ (Good y) → length a ≡ length b
+one_place Good xs a x after b y later is same good fine bad worse =
+    let low : length a < length b → ⊥ = not_before Good xs a x after b y later is same fine bad in
+    let high : length b < length a → ⊥ =
+    not_before Good xs b y later a x after same is good worse in
+    omega (arith, low, high)
 
 -- a time is ahead in one row
 pub one_ahead : (number : ℕ) (limit : Option ℕ) (cells : Entries) (x y : DocFault)
     → IsTimeAhead number limit cells x → IsTimeAhead number limit cells y → x ≡ y
 one_ahead number None cells x y p q = absurd p
 one_ahead number (Some limit) cells x y (row, a, is) (other, b, same) =
-    let low : row < other → ⊥ = not_before cells limit row other a b in
-    let high : other < row → ⊥ = not_before cells limit other row b a in
-    let place : row ≡ other = omega (arith, low, high) in
+    let late = a.is_ahead in
+    let later = b.is_ahead in
+    let at =
+    one_place (IsInTime limit) cells a.before a.ahead a.after b.before b.ahead b.after a.cells_are
+    b.cells_are a.in_time b.in_time (λ fine. omega (arith, fine, late))
+    (λ fine. omega (arith, fine, later)) in
+    let place : row ≡ other = sym a.row_is ∙ at ∙ b.row_is in
     is ∙ (λ i. record { document = number; cause = TimeAhead (place i) }) ∙ sym same
+
+-- ---- of an own edit that is missing
+
+-- where one is missing the site lacks an own edit
+pub missing_not_held : (number : ℕ) (own : OwnEdits) (site : SiteState) (rows : Entries)
+    (fault : DocFault) → LacksNoOwn own site rows → IsOwnMissing number own site rows fault → ⊥
+missing_not_held number Unchecked site rows fault none missing = missing
+missing_not_held number Checked site rows fault none (row, first, is) =
+    let Held = λ (e : Entry). ¬ (IsLackedEdit site.name site.cells e) in
+    all_at Held first.before first.edit first.after (subst (All Held) first.rows_are none)
+    first.is_lacked
+
+-- it is missing in one row
+pub one_missing : (number : ℕ) (own : OwnEdits) (site : SiteState) (rows : Entries)
+    (x y : DocFault) → IsOwnMissing number own site rows x → IsOwnMissing number own site rows y
+    → x ≡ y
+one_missing number Unchecked site rows x y p q = absurd p
+one_missing number Checked site rows x y (row, a, is) (other, b, same) =
+    let at =
+    one_place (λ (e : Entry). ¬ (IsLackedEdit site.name site.cells e)) rows a.before a.edit a.after
+    b.before b.edit b.after a.rows_are b.rows_are a.none_before b.none_before
+    (λ held. held a.is_lacked) (λ held. held b.is_lacked) in
+    let place : row ≡ other = sym a.row_is ∙ at ∙ b.row_is in
+    is ∙ (λ i. record { document = number; cause = OwnEditMissing (place i) }) ∙ sym same
 
 -- ---- of two sites
 
@@ -147,3 +183,52 @@ one_cell_cause own other (cata.StampReused p s) (cata.NotForMe addressee) first 
 pub one_of_cells : (own other : Entries) (x y : DocFault) → IsOfSite (IsRefusal own other) x
     → IsOfSite (IsRefusal own other) y → x ≡ y
 one_of_cells own other = one_of_site_call (IsRefusal own other) (one_cell_cause own other)
+
+-- ---- of a join of two sites
+
+-- two sites that agree, and lack no own edits, are not refused
+pub join_not_refused : (own : OwnEdits) (first second : SiteState) (fault : DocFault)
+    → LackNoOwn own first second → Agree first.cells second.cells → IsMap key_cmp second.cells
+    → RefusesJoin own first second fault → ⊥
+join_not_refused own first second fault none agree ascends why = elim why as (λ _. ⊥) [
+  | inl missing ↦ elim missing as (λ _. ⊥) [
+    | inl one ↦ missing_not_held 1 own second first.cells fault none.0 one
+    | inr two ↦ missing_not_held 2 own first second.cells fault none.1 two.1
+  ]
+  | inr clash ↦ cells_not_refused first.cells second.cells fault agree ascends clash.1
+]
+
+-- their own edits are missing in one row
+one_missing_of_both : (own : OwnEdits) (first second : SiteState) (x y : DocFault)
+    → IsOwnMissingOfBoth own first second x → IsOwnMissingOfBoth own first second y → x ≡ y
+one_missing_of_both own first second x y p q = elim p [
+  | inl a ↦ elim q [
+    | inl b ↦ one_missing 1 own second first.cells x y a b
+    | inr b ↦ absurd (missing_not_held 1 own second first.cells x b.0 a)
+  ]
+  | inr a ↦ elim q [
+    | inl b ↦ absurd (missing_not_held 1 own second first.cells y a.0 b)
+    | inr b ↦ one_missing 2 own first second.cells x y a.1 b.1
+  ]
+]
+
+both_not_missing : (own : OwnEdits) (first second : SiteState) (fault : DocFault)
+    → LackNoOwn own first second → IsOwnMissingOfBoth own first second fault → ⊥
+both_not_missing own first second fault none missing = elim missing as (λ _. ⊥) [
+  | inl one ↦ missing_not_held 1 own second first.cells fault none.0 one
+  | inr two ↦ missing_not_held 2 own first second.cells fault none.1 two.1
+]
+
+-- the join of two sites is refused by one fault
+pub one_join : (own : OwnEdits) (first second : SiteState) (x y : DocFault)
+    → RefusesJoin own first second x → RefusesJoin own first second y → x ≡ y
+one_join own first second x y p q = elim p [
+  | inl a ↦ elim q [
+    | inl b ↦ one_missing_of_both own first second x y a b
+    | inr b ↦ absurd (both_not_missing own first second x b.0 a)
+  ]
+  | inr a ↦ elim q [
+    | inl b ↦ absurd (both_not_missing own first second y a.0 b)
+    | inr b ↦ one_of_cells first.cells second.cells x y a.1 b.1
+  ]
+]

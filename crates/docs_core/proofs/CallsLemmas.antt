@@ -1,9 +1,7 @@
 -- What a call on documents writes, and which refusal it passes on.
-use Rattle.std.proofs.Common.{◌≡◌, ◌≢◌, ◌∙◌, ℕ, List, ap, inl, inr, refl, subst, sym}
+use Rattle.std.proofs.Common.{◌≡◌, ◌∙◌, ℕ, List, ap, inl, inr, subst, sym}
 use Rattle.std.specs.Prelude.{◌⊎◌}
-use Rattle.catalogue.specs.CataFault.{IsRefusal}
-use Rattle.cata_core.specs.Site.{RefusesDelta, SiteState}
-use Rattle.cata_core.specs.declared.delta.Delta.{Delta}
+use Rattle.cata_core.specs.Site.{SiteState}
 use Rattle.catalogue.specs.declared.cata_fault.CataFault.{CataFault}
 use Rattle.catalogue.specs.declared.cata_fault.CataFault.TheVariants as cata
 use Rattle.json_docs.specs.FaultChecks.{OrMemory}
@@ -29,21 +27,6 @@ pub site_written : (doc : List ℕ) (left site : SiteState) → left ≡ site �
     → ReadsAsSite doc left → IsSiteText site doc
 site_written doc left site same text reads =
     (text ∙ ap site_text same, subst (ReadsAsSite doc) same reads)
-
--- a delta for a site is refused as its cells are
-pub refuses_cells : (site : SiteState) (delta : Delta) (cause : CataFault)
-    → site.name ≡ delta.addressee → IsRefusal site.cells delta.cells cause
-    → RefusesDelta site delta cause
-refuses_cells site delta (cata.StampReused place stamp) mine why = (mine, why)
-refuses_cells site delta cata.ClockSpent mine why = (mine, why)
-refuses_cells site delta (cata.NotForMe addressee) mine why = absurd why
-refuses_cells site delta cata.NoMemory mine why = (mine, why)
-
--- a delta for another site is refused
-pub refuses_addressee : (site : SiteState) (delta : Delta) (cause : CataFault)
-    → cause ≡ cata.NotForMe delta.addressee → site.name ≢ delta.addressee
-    → RefusesDelta site delta cause
-refuses_addressee site delta cause is other = rw is (refl, other)
 
 -- where another document is refused, document 1 is refused before it or is read
 pub refused_after : (bytes : List ℕ) (fault first : DocFault) (Refuses : DocFault → Type 0)

@@ -18,7 +18,6 @@ use Rattle.cell_core.specs.Stamp.{stamp_cmp}
 use Rattle.cell_core.specs.declared.cell.Cell.{Cell}
 use Rattle.cell_core.specs.declared.stamp.Stamp.{Stamp}
 use Rattle.cell_core.proofs.JoinLemmas.{below_both}
-use Rattle.catalogue.specs.CataFault.{IsRefusal}
 use Rattle.cell_core.specs.Entry.{EntryKey}
 use Rattle.catalogue.specs.Entries.{Agree, Entries, IsBelowCells, catalogue_laws}
 use Rattle.cell_core.specs.Entry.{key_cmp, key_cmp_exact, key_cmp_total}
@@ -32,18 +31,19 @@ use Rattle.json_docs.specs.declared.fault.DocFault.{DocFault}
 use Rattle.row_docs.specs.Reading.{IsOfDocument}
 use Rattle.site_docs.specs.Reading.{IsSiteText, ReadsAsSite, RefusesSite}
 use Rattle.site_docs.proofs.ReadingOneDocument.{one_site}
-use Rattle.docs_core.specs.Calls.{AreSynced, IsOfSite, RefusesSync}
+use Rattle.docs_core.specs.Calls.{AreSynced, RefusesSync}
 use Rattle.docs_core.specs.Lines.{documents_of}
 use Rattle.docs_core.specs.Merging.{AllAgree, AreMerged, IsMerged, ReadAsSites, RefusesMerge}
-use Rattle.docs_core.specs.Merging.{RefusesNext, RefusesOther, joined_all, merged_site}
-use Rattle.docs_core.specs.Merging.{part_of_site}
-use Rattle.docs_core.specs.TimeLimits.{AreSyncedUntil}
-use Rattle.site_docs.specs.RowsInTime.{AreInTime, IsInTime, IsTimeAhead}
+use Rattle.docs_core.specs.Merging.{RefusesCells, RefusesNext, RefusesOther, joined_all}
+use Rattle.docs_core.specs.Merging.{merged_site, part_of_site}
+use Rattle.site_docs.specs.Checks.{LacksNoOwn, no_checks, until}
+use Rattle.site_docs.specs.declared.checks.Checks.{Checks}
+use Rattle.site_docs.specs.RowsInTime.{AreInTime, IsInTime}
 use Rattle.docs_core.proofs.CallRefusals.{ahead_not_in_time, all_at, cells_not_refused}
-use Rattle.docs_core.proofs.CallRefusals.{one_ahead, one_of_cells, one_of_site_document}
+use Rattle.docs_core.proofs.CallRefusals.{missing_not_held, one_ahead, one_missing, one_of_cells}
+use Rattle.docs_core.proofs.CallRefusals.{one_of_site_document}
 use Rattle.docs_core.proofs.CallRefusals.{site_not_refused, site_ascends}
 use Rattle.docs_core.proofs.MergingLemmas.{merged_first, merged_more, none_in}
-use Rattle.docs_core.proofs.TimeLimitsLemmas.{synced_same}
 
 -- ---- one reading
 
@@ -78,96 +78,121 @@ zip_split R (b ∷ before) x after (y ∷ ys) all =
 
 -- ---- merged and refused
 
+-- cells that pass the checks and agree are not refused
+cells_pass : (checks : Checks) (number : ℕ) (site : SiteState) (cells : Entries) (fault : DocFault)
+    → AreInTime checks.not_after cells → LacksNoOwn checks.own_edits site cells
+    → Agree site.cells cells → IsMap key_cmp cells → RefusesCells checks number site cells fault
+    → ⊥
+cells_pass checks number site cells fault in_time none agree ascends why = elim why as (λ _. ⊥) [
+  | inl ahead ↦ ahead_not_in_time number checks.not_after cells fault in_time ahead
+  | inr later ↦ elim later as (λ _. ⊥) [
+    | inl missing ↦ missing_not_held number checks.own_edits site cells fault none missing.1
+    | inr clash ↦ cells_not_refused site.cells cells fault agree ascends clash.2
+  ]
+]
+
+-- cells are refused by one fault
+one_of_checked : (checks : Checks) (number : ℕ) (site : SiteState) (cells : Entries)
+    (x y : DocFault) → RefusesCells checks number site cells x
+    → RefusesCells checks number site cells y → x ≡ y
+one_of_checked checks number site cells x y p q =
+    let limit = checks.not_after in
+    let own = checks.own_edits in
+    elim p [
+      | inl a ↦ elim q [
+        | inl b ↦ one_ahead number limit cells x y a b
+        | inr later ↦ elim later [
+          | inl b ↦ absurd (ahead_not_in_time number limit cells x b.0 a)
+          | inr b ↦ absurd (ahead_not_in_time number limit cells x b.0 a)
+        ]
+      ]
+      | inr first ↦ elim first [
+        | inl a ↦ elim q [
+          | inl b ↦ absurd (ahead_not_in_time number limit cells y a.0 b)
+          | inr later ↦ elim later [
+            | inl b ↦ one_missing number own site cells x y a.1 b.1
+            | inr b ↦ absurd (missing_not_held number own site cells x b.1 a.1)
+          ]
+        ]
+        | inr a ↦ elim q [
+          | inl b ↦ absurd (ahead_not_in_time number limit cells y a.0 b)
+          | inr later ↦ elim later [
+            | inl b ↦ absurd (missing_not_held number own site cells y a.1 b.1)
+            | inr b ↦ one_of_cells site.cells cells x y a.2 b.2
+          ]
+        ]
+      ]
+    ]
+
 -- documents that are merged are not refused at any of them
-pub merged_not_refused : (limit : Option ℕ) (before : List (List ℕ)) (document : List ℕ)
+pub merged_not_refused : (checks : Checks) (before : List (List ℕ)) (document : List ℕ)
     (after : List (List ℕ)) (first : SiteState) (others : List SiteState) (fault : DocFault)
-    → AreMerged limit (before ++ document ∷ after) first others
-    → RefusesNext limit before document fault → ⊥
-merged_not_refused limit [] document after first others fault so (inl (none, why)) =
+    → AreMerged checks (before ++ document ∷ after) first others
+    → RefusesNext checks before document fault → ⊥
+merged_not_refused checks [] document after first others fault so (inl (none, why)) =
     site_not_refused 1 document first fault so.read.0 why
-merged_not_refused limit [] document after first others fault so (inr (f, os, none, why)) =
+merged_not_refused checks [] document after first others fault so (inr (f, os, none, why)) =
     absurd none.read
-merged_not_refused limit (b ∷ before) document after first others fault so (inl (none, why)) =
+merged_not_refused checks (b ∷ before) document after first others fault so (inl (none, why)) =
     absurd (let e : b ∷ before ≡ [] = none in cc)
-merged_not_refused limit (b ∷ before) document after first others fault so
+merged_not_refused checks (b ∷ before) document after first others fault so
     (inr (f, os, front, why)) =
     let number = length (b ∷ before) + 1 in
     let at = zip_split ReadsAsSite before document after others so.read.1 in
     let same_first : f ≡ first = one_site b f first front.read.0 so.read.0 in
     let same_others : os ≡ at.0 = one_reading before os at.0 front.read.1 at.4 in
-    let cells : joined_all f.cells os ≡ joined_all first.cells at.0 =
-    λ i. joined_all (same_first i).cells (same_others i) in
+    let left : merged_site f os ≡ merged_site first at.0 =
+    λ i. merged_site (same_first i) (same_others i) in
     let site = at.1 in
-    let in_time = all_at (λ (o : SiteState). AreInTime limit o.cells) at.0 site at.2
-    (subst (All (λ (o : SiteState). AreInTime limit o.cells)) at.3 so.in_time) in
-    let agree = so.agree at.0 site at.2 at.3 in
+    let Timely = λ (o : SiteState). AreInTime checks.not_after o.cells in
+    let in_time = all_at Timely at.0 site at.2 (subst (All Timely) at.3 so.in_time) in
     elim why as (λ _. ⊥) [
       | inl refused ↦ site_not_refused number document site fault at.5 refused
       | inr (other, reads, later) ↦
           let same : other ≡ site = one_site document other site reads at.5 in
-          elim later as (λ _. ⊥) [
-            | inl ahead ↦ ahead_not_in_time number limit site.cells fault in_time
-                (subst (λ (s : SiteState). IsTimeAhead number limit s.cells fault) same ahead)
-            | inr (timely, clash) ↦ cells_not_refused (joined_all first.cells at.0) site.cells
-                fault agree (site_ascends document site at.5)
-                (subst (λ (s : SiteState).
-                IsOfSite (IsRefusal (joined_all first.cells at.0) s.cells) fault) same
-                (subst (λ (es : Entries). IsOfSite (IsRefusal es other.cells) fault) cells clash))
-          ]
+          cells_pass checks number (merged_site first at.0) site.cells fault in_time
+          (so.own at.0 site at.2 at.3) (so.agree at.0 site at.2 at.3)
+          (site_ascends document site at.5)
+          (subst (λ (s : SiteState).
+          RefusesCells checks number (merged_site first at.0) s.cells fault) same
+          (subst (λ (s : SiteState). RefusesCells checks number s other.cells fault) left later))
     ]
 
 -- ---- one refusal
 
 -- the next document is refused by one fault
-one_of_other : (limit : Option ℕ) (number : ℕ) (cells : Entries) (document : List ℕ)
-    (x y : DocFault) → RefusesOther limit number cells document x
-    → RefusesOther limit number cells document y → x ≡ y
-one_of_other limit number cells document x y p q = elim p [
+one_of_other : (checks : Checks) (number : ℕ) (held : SiteState) (document : List ℕ)
+    (x y : DocFault) → RefusesOther checks number held document x
+    → RefusesOther checks number held document y → x ≡ y
+one_of_other checks number held document x y p q = elim p [
   | inl refused ↦ elim q [
     | inl other ↦ one_of_site_document number document x y refused other
     | inr (site, reads, later) ↦ absurd (site_not_refused number document site x reads refused)
   ]
   | inr (site, reads, later) ↦ elim q [
     | inl refused ↦ absurd (site_not_refused number document site y reads refused)
-    | inr (held, again, other) ↦
-        let same : held ≡ site = one_site document held site again reads in
-        one_later site x y later (subst (λ (s : SiteState). IsTimeAhead number limit s.cells y
-        ⊎ (AreInTime limit s.cells × IsOfSite (IsRefusal cells s.cells) y)) same other)
+    | inr (again, seen, other) ↦ one_of_checked checks number held site.cells x y later
+        (subst (λ (s : SiteState). RefusesCells checks number held s.cells y)
+        (one_site document again site seen reads) other)
   ]
 ]
-  where
-    one_later : (site : SiteState) (x y : DocFault) → IsTimeAhead number limit site.cells x
-        ⊎ (AreInTime limit site.cells × IsOfSite (IsRefusal cells site.cells) x)
-        → IsTimeAhead number limit site.cells y
-        ⊎ (AreInTime limit site.cells × IsOfSite (IsRefusal cells site.cells) y)
-        → x ≡ y
-    one_later site x y p q = elim p [
-      | inl ahead ↦ elim q [
-        | inl other ↦ one_ahead number limit site.cells x y ahead other
-        | inr clash ↦ absurd (ahead_not_in_time number limit site.cells x clash.0 ahead)
-      ]
-      | inr clash ↦ elim q [
-        | inl other ↦ absurd (ahead_not_in_time number limit site.cells y clash.0 other)
-        | inr again ↦ one_of_cells cells site.cells x y clash.1 again.1
-      ]
-    ]
 
-one_next : (limit : Option ℕ) (before : List (List ℕ)) (document : List ℕ) (x y : DocFault)
-    → RefusesNext limit before document x → RefusesNext limit before document y → x ≡ y
-one_next limit [] document x y (inl p) (inl q) = one_of_site_document 1 document x y p.1 q.1
-one_next limit [] document x y (inr p) q = absurd p.2.read
-one_next limit [] document x y (inl p) (inr q) = absurd q.2.read
-one_next limit (b ∷ before) document x y (inl p) q = absurd (let e : b ∷ before ≡ [] = p.0 in cc)
-one_next limit (b ∷ before) document x y (inr p) (inl q) =
+one_next : (checks : Checks) (before : List (List ℕ)) (document : List ℕ) (x y : DocFault)
+    → RefusesNext checks before document x → RefusesNext checks before document y → x ≡ y
+one_next checks [] document x y (inl p) (inl q) = one_of_site_document 1 document x y p.1 q.1
+one_next checks [] document x y (inr p) q = absurd p.2.read
+one_next checks [] document x y (inl p) (inr q) = absurd q.2.read
+one_next checks (b ∷ before) document x y (inl p) q = absurd (let e : b ∷ before ≡ [] = p.0 in cc)
+one_next checks (b ∷ before) document x y (inr p) (inl q) =
     absurd (let e : b ∷ before ≡ [] = q.0 in cc)
-one_next limit (b ∷ before) document x y (inr (f, os, so, p)) (inr (g, qs, seen, q)) =
+one_next checks (b ∷ before) document x y (inr (f, os, so, p)) (inr (g, qs, seen, q)) =
     let number = length (b ∷ before) + 1 in
     let same_first : g ≡ f = one_site b g f seen.read.0 so.read.0 in
     let same_others : qs ≡ os = one_reading before qs os seen.read.1 so.read.1 in
-    let cells : joined_all g.cells qs ≡ joined_all f.cells os =
-    λ i. joined_all (same_first i).cells (same_others i) in
-    one_of_other limit number (joined_all f.cells os) document x y p
-    (subst (λ (es : Entries). RefusesOther limit number es document y) cells q)
+    let left : merged_site g qs ≡ merged_site f os =
+    λ i. merged_site (same_first i) (same_others i) in
+    one_of_other checks number (merged_site f os) document x y p
+    (subst (λ (s : SiteState). RefusesOther checks number s document y) left q)
 
 -- of two places in a list they are one, or one is before the other
 two_places : {X : Type 0} (a : List X) (x : X) (at : List X) (b : List X) (y : X) (bs : List X)
@@ -191,35 +216,35 @@ two_places (c ∷ a) x at (d ∷ b) y bs e =
     ]
 
 -- where a later document is the next, those before it are not refused
-later_not_refused : (limit : Option ℕ) (before more longer : List (List ℕ))
+later_not_refused : (checks : Checks) (before more longer : List (List ℕ))
     (document next : List ℕ) (x y : DocFault) → longer ≡ before ++ document ∷ more
-    → RefusesNext limit before document x → RefusesNext limit longer next y → ⊥
-later_not_refused limit before more longer document next x y is p q = elim q as (λ _. ⊥) [
+    → RefusesNext checks before document x → RefusesNext checks longer next y → ⊥
+later_not_refused checks before more longer document next x y is p q = elim q as (λ _. ⊥) [
   | inl first ↦ none_in before document more (sym first.0 ∙ is)
-  | inr (f, os, so, why) ↦ merged_not_refused limit before document more f os x
-      (subst (λ (ds : List (List ℕ)). AreMerged limit ds f os) is so) p
+  | inr (f, os, so, why) ↦ merged_not_refused checks before document more f os x
+      (subst (λ (ds : List (List ℕ)). AreMerged checks ds f os) is so) p
 ]
 
 -- a merge is refused by one fault
-pub one_merge_refusal : (input : List ℕ) (limit : Option ℕ) (x y : DocFault)
-    → RefusesMerge input limit x → RefusesMerge input limit y → x ≡ y
-one_merge_refusal input limit x y (a, d, rest, is, p) (b, e, more, same, q) =
+pub one_merge_refusal : (checks : Checks) (input : List ℕ) (x y : DocFault)
+    → RefusesMerge checks input x → RefusesMerge checks input y → x ≡ y
+one_merge_refusal checks input x y (a, d, rest, is, p) (b, e, more, same, q) =
     elim (two_places a d rest b e more (sym is ∙ same)) as (λ _. x ≡ y) [
-      | inl here ↦ one_next limit a d x y p
-          (subst (λ (c : List ℕ). RefusesNext limit a c y) (sym here.1)
-          (subst (λ (ds : List (List ℕ)). RefusesNext limit ds e y) (sym here.0) q))
+      | inl here ↦ one_next checks a d x y p
+          (subst (λ (c : List ℕ). RefusesNext checks a c y) (sym here.1)
+          (subst (λ (ds : List (List ℕ)). RefusesNext checks ds e y) (sym here.0) q))
       | inr apart ↦ elim apart as (λ _. x ≡ y) [
-        | inl later ↦ absurd (later_not_refused limit a later.0 b d e x y later.1 p q)
-        | inr sooner ↦ absurd (later_not_refused limit b sooner.0 a e d y x sooner.1 q p)
+        | inl later ↦ absurd (later_not_refused checks a later.0 b d e x y later.1 p q)
+        | inr sooner ↦ absurd (later_not_refused checks b sooner.0 a e d y x sooner.1 q p)
       ]
     ]
 
 -- what is merged is not refused
-pub merge_not_refused : (input : List ℕ) (limit : Option ℕ) (text : List ℕ) (fault : DocFault)
-    → IsMerged input limit text → RefusesMerge input limit fault → ⊥
-merge_not_refused input limit text fault (first, others, so, is) (a, d, rest, same, why) =
-    merged_not_refused limit a d rest first others fault
-    (subst (λ (ds : List (List ℕ)). AreMerged limit ds first others) same so) why
+pub merge_not_refused : (checks : Checks) (input text : List ℕ) (fault : DocFault)
+    → IsMerged checks input text → RefusesMerge checks input fault → ⊥
+merge_not_refused checks input text fault (first, others, so, is) (a, d, rest, same, why) =
+    merged_not_refused checks a d rest first others fault
+    (subst (λ (ds : List (List ℕ)). AreMerged checks ds first others) same so) why
 
 -- ---- the join of all
 
@@ -396,11 +421,11 @@ abbrev cells_of : List SiteState → List Entries
 cells_of sites = map (λ (s : SiteState). s.cells) sites
 
 -- what was merged is the join of all
-pub merged_joins : (limit : Option ℕ) (documents : List (List ℕ)) (first : SiteState)
-    (others : List SiteState) → AreMerged limit documents first others
+pub merged_joins : (checks : Checks) (documents : List (List ℕ)) (first : SiteState)
+    (others : List SiteState) → AreMerged checks documents first others
     → IsJoinOf Agree joined (map (λ (s : SiteState). s.cells) (first ∷ others))
     (joined_all first.cells others)
-merged_joins limit documents first others so =
+merged_joins checks documents first others so =
     let turn = in_turn first.cells others so.agree in
     let all = cells_of (first ∷ others) in
     let each : (P : Entries → Type 0) → All P all → (s : SiteState) → In (first ∷ others) s
@@ -432,18 +457,18 @@ merged_joins limit documents first others so =
         ])
 
 -- what is written of a merge reads as the join of all
-pub merge_joins : (input text : List ℕ) (limit : Option ℕ) (sites : List SiteState)
-    (after : SiteState) → ReadAsSites (documents_of input) sites → IsMerged input limit text
+pub merge_joins : (checks : Checks) (input text : List ℕ) (sites : List SiteState)
+    (after : SiteState) → ReadAsSites (documents_of input) sites → IsMerged checks input text
     → ReadsAsSite text after
     → IsJoinOf Agree joined (map (λ (s : SiteState). s.cells) sites) after.cells
-merge_joins input text limit sites after reads (first, others, so, is) again =
+merge_joins checks input text sites after reads (first, others, so, is) again =
     let same = one_reading (documents_of input) sites (first ∷ others) reads so.read in
     let left = one_site text after (merged_site first others) again is.1 in
     subst (λ (ss : List SiteState).
     IsJoinOf Agree joined (map (λ (s : SiteState). s.cells) ss) after.cells) (sym same)
     (subst (λ (s : SiteState). IsJoinOf Agree joined
     (map (λ (t : SiteState). t.cells) (first ∷ others)) s.cells) (sym left)
-    (merged_joins limit (documents_of input) first others so))
+    (merged_joins checks (documents_of input) first others so))
 
 -- ---- in any order
 
@@ -502,7 +527,7 @@ sites_for P (d ∷ documents) each =
     )
 
 module _ (limit : Option ℕ) (first : SiteState) (others : List SiteState) (document : List ℕ)
-    (ds : List (List ℕ)) (so : AreMerged limit (document ∷ ds) first others)
+    (ds : List (List ℕ)) (so : AreMerged (until limit) (document ∷ ds) first others)
     (agree : AllAgree (document ∷ ds)) where
   pairs : (s t : SiteState) → In (first ∷ others) s → In (first ∷ others) t
       → Agree s.cells t.cells
@@ -519,7 +544,7 @@ module _ (limit : Option ℕ) (first : SiteState) (others : List SiteState) (doc
       → ((s : SiteState) → In others s
       → (s ≡ first) ⊎ ((e : List ℕ) × In es e × ReadsAsSite e s))
       → IsSiteText (merged_site first others) text
-      → (more : List SiteState) × AreMerged limit (document ∷ es) first more
+      → (more : List SiteState) × AreMerged (until limit) (document ∷ es) first more
       × IsSiteText (merged_site first more) text
   others_merge es text into back is =
       let found = sites_for (λ s. In (first ∷ others) s × AreInTime limit s.cells) es into in
@@ -556,6 +581,7 @@ module _ (limit : Option ℕ) (first : SiteState) (others : List SiteState) (doc
           read = (so.read.0, found.1);
           in_time = all_from_in (λ (o : SiteState). AreInTime limit o.cells) more
               (λ s at. (found.2 s at).1);
+          own = λ before other after e. tt;
           agree = from_turn first.cells more again;
         },
         subst (λ (es : Entries).
@@ -567,9 +593,9 @@ module _ (limit : Option ℕ) (first : SiteState) (others : List SiteState) (doc
 pub any_order : (a b text : List ℕ) (limit : Option ℕ) (document : List ℕ) (ds es : List (List ℕ))
     → documents_of a ≡ document ∷ ds → documents_of b ≡ document ∷ es
     → ((d : List ℕ) → Contains ds d ↔ Contains es d) → AllAgree (document ∷ ds)
-    → IsMerged a limit text → IsMerged b limit text
+    → IsMerged (until limit) a text → IsMerged (until limit) b text
 any_order a b text limit document ds es are others_are members agree (first, others, so, is) =
-    let merged = subst (λ (xs : List (List ℕ)). AreMerged limit xs first others) are so in
+    let merged = subst (λ (xs : List (List ℕ)). AreMerged (until limit) xs first others) are so in
     let made = others_merge limit first others document ds merged agree es text
     (λ e at.
     let in_ds = in_from_Contains ds e ((members e).1 (Contains-from_in es e at)) in
@@ -591,7 +617,8 @@ any_order a b text limit document ds es are others_are members agree (first, oth
     )) is in (
       first,
       made.0,
-      subst (λ (xs : List (List ℕ)). AreMerged limit xs first made.0) (sym others_are) made.1,
+      subst (λ (xs : List (List ℕ)). AreMerged (until limit) xs first made.0) (sym others_are)
+          made.1,
       made.2,
     )
 
@@ -599,9 +626,9 @@ any_order a b text limit document ds es are others_are members agree (first, oth
 pub any_copies : (a b text : List ℕ) (document : List ℕ) (ds es : List (List ℕ))
     → documents_of a ≡ document ∷ ds → documents_of b ≡ document ∷ es
     → ((d : List ℕ) → Contains (document ∷ ds) d ↔ Contains (document ∷ es) d)
-    → AllAgree (document ∷ ds) → IsMerged a None text → IsMerged b None text
+    → AllAgree (document ∷ ds) → IsMerged no_checks a text → IsMerged no_checks b text
 any_copies a b text document ds es are others_are members agree (first, others, so, is) =
-    let merged = subst (λ (xs : List (List ℕ)). AreMerged None xs first others) are so in
+    let merged = subst (λ (xs : List (List ℕ)). AreMerged no_checks xs first others) are so in
     let made = others_merge None first others document ds merged agree es text
     (λ e at.
     let inside = in_from_Contains (document ∷ ds) e
@@ -619,7 +646,7 @@ any_copies a b text document ds es are others_are members agree (first, others, 
     ]) is in (
       first,
       made.0,
-      subst (λ (xs : List (List ℕ)). AreMerged None xs first made.0) (sym others_are) made.1,
+      subst (λ (xs : List (List ℕ)). AreMerged no_checks xs first made.0) (sym others_are) made.1,
       made.2,
     )
 
@@ -627,52 +654,57 @@ any_copies a b text document ds es are others_are members agree (first, others, 
 
 module _ (input a b : List ℕ) (are : documents_of input ≡ a ∷ b ∷ []) where
   -- what a sync prints first is what the merge of both prints
-  pub two_merged : (limit : Option ℕ) (x y : List ℕ) → AreSyncedUntil a b limit x y
-      → IsMerged input limit x
-  two_merged limit x y
-      (first, second, reads, second_reads, in_time, second_in_time, agree, is, second_is) = (
+  pub two_merged : (checks : Checks) (x y : List ℕ) → AreSynced checks a b x y
+      → IsMerged checks input x
+  two_merged checks x y
+      (first, second, reads, second_reads, in_time, second_in_time, none, agree, is, second_is) = (
         first,
         second ∷ [],
-        subst (λ (ds : List (List ℕ)). AreMerged limit ds first (second ∷ [])) (sym are)
-            (merged_more limit (a ∷ []) first [] b second (merged_first limit a first reads)
-            second_reads second_in_time agree),
+        subst (λ (ds : List (List ℕ)). AreMerged checks ds first (second ∷ [])) (sym are)
+            (merged_more checks (a ∷ []) first [] b second (merged_first checks a first reads)
+            second_reads second_in_time none.1 agree),
         is,
       )
 
-  -- the same without a limit
-  pub two_synced : (x y : List ℕ) → AreSynced a b x y → IsMerged input None x
-  two_synced x y synced = two_merged None x y
-      ((synced_same a b None x y).1 (synced, λ site either. tt))
-
-  two_refused : (fault : DocFault) → RefusesSync a b fault → RefusesMerge input None fault
-  two_refused fault why = elim why as (λ _. RefusesMerge input None fault) [
+  two_refused : (fault : DocFault) → RefusesSync no_checks a b fault
+      → RefusesMerge no_checks input fault
+  two_refused fault why = elim why as (λ _. RefusesMerge no_checks input fault) [
     | inl first ↦ ([], a, b ∷ [], are, inl (refl, first))
-    | inr later ↦ elim later as (λ _. RefusesMerge input None fault) [
+    | inr later ↦ elim later as (λ _. RefusesMerge no_checks input fault) [
       | inl (first, reads, second) ↦ (
         a ∷ [],
         b,
         [],
         are,
-        inr (first, [], merged_first None a first reads, inl second),
+        inr (first, [], merged_first no_checks a first reads, inl second),
       )
-      | inr (first, second, reads, second_reads, clash) ↦ (
-        a ∷ [],
-        b,
-        [],
-        are,
-        inr (
-          first,
-          [],
-          merged_first None a first reads,
-          inr (second, second_reads, inr (tt, clash)),
-        ),
-      )
+      | inr last ↦ elim last as (λ _. RefusesMerge no_checks input fault) [
+        | inl (first, second, reads, second_reads, ahead) ↦
+            absurd (elim ahead as (λ _. ⊥) [ inl one ↦ one | inr two ↦ two.1 ])
+        | inr (first, second, reads, second_reads, u, v, why) ↦
+            elim why as (λ _. RefusesMerge no_checks input fault) [
+              | inl missing ↦
+                  absurd (elim missing as (λ _. ⊥) [ inl one ↦ one | inr two ↦ two.1 ])
+              | inr clash ↦ (
+                a ∷ [],
+                b,
+                [],
+                are,
+                inr (
+                  first,
+                  [],
+                  merged_first no_checks a first reads,
+                  inr (second, second_reads, inr (inr (tt, tt, clash.1))),
+                ),
+              )
+            ]
+      ]
     ]
   ]
 
   refused_two : (before : List (List ℕ)) (document : List ℕ) (after : List (List ℕ))
       (fault : DocFault) → a ∷ b ∷ [] ≡ before ++ document ∷ after
-      → RefusesNext None before document fault → RefusesSync a b fault
+      → RefusesNext no_checks before document fault → RefusesSync no_checks a b fault
   refused_two [] document after fault is (inl (none, why)) =
       let same : a ≡ document = cc in
       inl (subst (λ (d : List ℕ). IsOfDocument 1 (RefusesSite d) fault) (sym same) why)
@@ -683,13 +715,26 @@ module _ (input a b : List ℕ) (are : documents_of input ≡ a ∷ b ∷ []) wh
       let same_a : a ≡ c = cc in
       let same_b : b ≡ document = cc in
       let reads = subst (λ (d : List ℕ). ReadsAsSite d first) (sym same_a) so.read.0 in
-      elim (subst (λ (d : List ℕ). RefusesOther None 2 first.cells d fault) (sym same_b) why) as
-      (λ _. RefusesSync a b fault) [
+      elim (subst (λ (d : List ℕ). RefusesOther no_checks 2 (merged_site first []) d fault)
+      (sym same_b) why) as
+      (λ _. RefusesSync no_checks a b fault) [
         | inl refused ↦ inr (inl (first, reads, refused))
-        | inr (second, second_reads, later) ↦ elim later as (λ _. RefusesSync a b fault) [
-          | inl ahead ↦ absurd ahead
-          | inr clash ↦ inr (inr (first, second, reads, second_reads, clash.1))
-        ]
+        | inr (second, second_reads, later) ↦
+            elim later as (λ _. RefusesSync no_checks a b fault) [
+              | inl ahead ↦ absurd ahead
+              | inr rest ↦ elim rest as (λ _. RefusesSync no_checks a b fault) [
+                | inl missing ↦ absurd missing.1
+                | inr clash ↦ inr (inr (inr (
+                  first,
+                  second,
+                  reads,
+                  second_reads,
+                  tt,
+                  tt,
+                  inr ((tt, tt), clash.2),
+                )))
+              ]
+            ]
       ]
   refused_two (c ∷ []) document after fault is (inr (first, o ∷ os, so, why)) = absurd so.read.1
   refused_two (c ∷ d ∷ before) document after fault is (inr so) =
@@ -697,7 +742,8 @@ module _ (input a b : List ℕ) (are : documents_of input ≡ a ∷ b ∷ []) wh
       absurd (none_in before document after rest)
 
   -- it is refused just where the merge is
-  pub two_refusals : (fault : DocFault) → RefusesMerge input None fault ↔ RefusesSync a b fault
+  pub two_refusals : (fault : DocFault)
+      → RefusesMerge no_checks input fault ↔ RefusesSync no_checks a b fault
   two_refusals fault = (
     λ (before, document, after, is, why).
         refused_two before document after fault (sym are ∙ is) why,
@@ -766,9 +812,9 @@ module _ (messages : List ℕ → Bool) where
   -- the merge of parts is the part of the merge
   pub part_merged : (whole parts text doc : List ℕ) (limit : Option ℕ) (sites : List SiteState)
       (after : SiteState) → ReadAsSites (documents_of whole) sites
-      → ReadAsSites (documents_of parts) (map part sites) → IsMerged whole limit text
+      → ReadAsSites (documents_of parts) (map part sites) → IsMerged (until limit) whole text
       → ReadsAsSite text after → IsSiteText (part after) doc
-      → IsMerged parts limit doc
+      → IsMerged (until limit) parts doc
   part_merged whole parts text doc limit sites after reads part_reads (first, others, so, is)
       after_reads part_is =
       let same : sites ≡ first ∷ others =
@@ -787,6 +833,7 @@ module _ (messages : List ℕ → Bool) where
         record {
           read = read;
           in_time = part_all_in_time limit others so.in_time;
+          own = λ before other after e. tt;
           agree = from_turn (part_of messages first.cells) (map part others)
               (part_turn first.cells others own each (in_turn first.cells others so.agree));
         },

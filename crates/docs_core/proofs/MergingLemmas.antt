@@ -2,7 +2,7 @@
 use Rattle.std.proofs.Common.{◌≡◌, ◌∙◌, ◌<◌, ◌≤◌, ◌+◌, ℕ, List, [], ◌∷◌, ◌++◌, ap}
 use Rattle.std.proofs.Common.{append_assoc, arith, inl, inr, length, length-append, refl}
 use Rattle.std.proofs.Common.{subst, sym}
-use Rattle.std.specs.Prelude.{◌⊎◌, Option}
+use Rattle.std.specs.Prelude.{◌⊎◌}
 use Rattle.std.specs.List.{AllZip}
 use Rattle.std.proofs.lemmas.List.Elements.{All-nil, All-push}
 use Rattle.catalogue.specs.Entries.{Agree, Entries, joined}
@@ -10,6 +10,8 @@ use Rattle.cata_core.specs.Site.{SiteState}
 use Rattle.json_docs.specs.declared.fault.DocFault.{DocFault}
 use Rattle.row_docs.specs.Reading.{IsOfDocument}
 use Rattle.site_docs.specs.Reading.{ReadsAsSite, RefusesSite}
+use Rattle.site_docs.specs.Checks.{LacksNoOwn}
+use Rattle.site_docs.specs.declared.checks.Checks.{Checks}
 use Rattle.docs_core.specs.Lines.{AreDocuments, documents_of, lines_of, one_at_least}
 use Rattle.docs_core.specs.Merging.{AreMerged, JoinsOther, RefusesMerge, RefusesOther}
 use Rattle.docs_core.specs.Merging.{joined_all, merged_site}
@@ -66,23 +68,36 @@ joined_push cells [] site = refl
 joined_push cells (s ∷ sites) site = joined_push (joined cells s.cells) sites site
 
 -- the first document alone
-pub merged_first : (limit : Option ℕ) (document : List ℕ) (first : SiteState)
-    → ReadsAsSite document first → AreMerged limit (document ∷ []) first []
-merged_first limit document first reads = record {
+pub merged_first : (checks : Checks) (document : List ℕ) (first : SiteState)
+    → ReadsAsSite document first → AreMerged checks (document ∷ []) first []
+merged_first checks document first reads = record {
   read = (reads, tt);
-  in_time = All-nil (λ (other : SiteState). AreInTime limit other.cells);
+  in_time = All-nil (λ (other : SiteState). AreInTime checks.not_after other.cells);
+  own = λ before other after e. absurd (none_in before other after e);
   agree = λ before other after e. absurd (none_in before other after e);
 }
 
 -- one document more
-pub merged_more : (limit : Option ℕ) (documents : List (List ℕ)) (first : SiteState)
+pub merged_more : (checks : Checks) (documents : List (List ℕ)) (first : SiteState)
     (others : List SiteState) (document : List ℕ) (other : SiteState)
-    → AreMerged limit documents first others → ReadsAsSite document other
-    → AreInTime limit other.cells → Agree (joined_all first.cells others) other.cells
-    → AreMerged limit (documents ++ document ∷ []) first (others ++ other ∷ [])
-merged_more limit documents first others document other so reads in_time agree = record {
+    → AreMerged checks documents first others → ReadsAsSite document other
+    → AreInTime checks.not_after other.cells
+    → LacksNoOwn checks.own_edits (merged_site first others) other.cells
+    → Agree (joined_all first.cells others) other.cells
+    → AreMerged checks (documents ++ document ∷ []) first (others ++ other ∷ [])
+merged_more checks documents first others document other so reads in_time none agree = record {
   read = zip_push ReadsAsSite documents (first ∷ others) document other so.read reads;
-  in_time = All-push (λ (o : SiteState). AreInTime limit o.cells) others other so.in_time in_time;
+  in_time =
+      All-push (λ (o : SiteState). AreInTime checks.not_after o.cells) others other so.in_time
+      in_time;
+  own = λ before site after e. elim (split_push others other before site after e) as
+      (λ _. LacksNoOwn checks.own_edits (merged_site first before) site.cells) [
+        | inl here ↦ subst
+            (λ (s : SiteState). LacksNoOwn checks.own_edits (merged_site first before) s.cells)
+            (sym here.1) (subst (λ (b : List SiteState).
+            LacksNoOwn checks.own_edits (merged_site first b) other.cells) (sym here.0) none)
+        | inr later ↦ so.own before site later.0 later.1
+      ];
   agree = λ before site after e. elim (split_push others other before site after e) as
       (λ _. Agree (joined_all first.cells before) site.cells) [
         | inl here ↦ subst (λ (s : SiteState). Agree (joined_all first.cells before) s.cells)
@@ -96,21 +111,21 @@ merged_more limit documents first others document other so reads in_time agree =
 
 -- the documents before the lines that are left are as many as the number says, and the site is
 -- their merge
-pub record IsMergedTo (limit : Option ℕ) (input : List ℕ) (left : List (List ℕ)) (number : ℕ)
+pub record IsMergedTo (checks : Checks) (input : List ℕ) (left : List (List ℕ)) (number : ℕ)
     (site : SiteState) : Type 0 where
   pub before : List (List ℕ)
   pub first : SiteState
   pub others : List SiteState
   pub documents_are : documents_of input ≡ before ++ left
   pub number_is : length before ≡ number
-  pub merged : AreMerged limit before first others
+  pub merged : AreMerged checks before first others
   pub site_is : site ≡ merged_site first others
 
-module _ (limit : Option ℕ) (input : List ℕ) where
+module _ (checks : Checks) (input : List ℕ) where
   -- the first document was read
   pub merge_starts : (document rest : List ℕ) (left : List (List ℕ)) (site : SiteState)
       → AreDocuments input document rest → left ≡ lines_of rest → ReadsAsSite document site
-      → IsMergedTo limit input left 1 site
+      → IsMergedTo checks input left 1 site
   merge_starts document rest left site are lines reads = record {
     before = document ∷ [];
     first = site;
@@ -119,17 +134,17 @@ module _ (limit : Option ℕ) (input : List ℕ) where
         document_cut input document rest are
         ∙ ap (λ (ls : List (List ℕ)). document ∷ ls) (sym lines);
     number_is = refl;
-    merged = merged_first limit document site reads;
+    merged = merged_first checks document site reads;
     site_is = refl;
   }
 
   -- one document more was merged
   pub merge_goes_on : (left rest : List (List ℕ)) (document : List ℕ) (number next : ℕ)
-      (site joins : SiteState) → IsMergedTo limit input left number site → left ≡ document ∷ rest
-      → next ≡ number + 1 → JoinsOther limit document site joins
-      → IsMergedTo limit input rest next joins
+      (site joins : SiteState) → IsMergedTo checks input left number site → left ≡ document ∷ rest
+      → next ≡ number + 1 → JoinsOther checks document site joins
+      → IsMergedTo checks input rest next joins
   merge_goes_on left rest document number next site joins so is counts
-      (other, reads, in_time, agree, new) =
+      (other, reads, in_time, none, agree, new) =
       let cells : site.cells ≡ joined_all so.first.cells so.others =
       ap (λ (s : SiteState). s.cells) so.site_is in
       let size = length-append so.before (document ∷ []) in
@@ -141,8 +156,9 @@ module _ (limit : Option ℕ) (input : List ℕ) where
             so.documents_are ∙ ap (λ (ls : List (List ℕ)). so.before ++ ls) is
             ∙ sym (append_assoc so.before (document ∷ []) rest);
         number_is = omega (arith, size, was, counts);
-        merged = merged_more limit so.before so.first so.others document other so.merged reads
-            in_time (subst (λ (es : Entries). Agree es other.cells) cells agree);
+        merged = merged_more checks so.before so.first so.others document other so.merged reads
+            in_time (subst (λ (s : SiteState). LacksNoOwn checks.own_edits s other.cells) so.site_is
+            none) (subst (λ (es : Entries). Agree es other.cells) cells agree);
         site_is = new
             ∙ ap (λ (s : SiteState). let r : SiteState =
             record { name = s.name; cells = joined s.cells other.cells } in r) so.site_is
@@ -154,13 +170,11 @@ module _ (limit : Option ℕ) (input : List ℕ) where
 
   -- the next document is refused
   pub merge_refused : (left rest : List (List ℕ)) (document : List ℕ) (number next : ℕ)
-      (site : SiteState) (fault : DocFault) → IsMergedTo limit input left number site
+      (site : SiteState) (fault : DocFault) → IsMergedTo checks input left number site
       → left ≡ document ∷ rest → next ≡ number + 1
-      → RefusesOther limit next site.cells document fault
-      → RefusesMerge input limit fault
+      → RefusesOther checks next site document fault
+      → RefusesMerge checks input fault
   merge_refused left rest document number next site fault so is counts why =
-      let cells : site.cells ≡ joined_all so.first.cells so.others =
-      ap (λ (s : SiteState). s.cells) so.site_is in
       let was = so.number_is in
       let place : next ≡ length so.before + 1 = omega (arith, was, counts) in (
         so.before,
@@ -171,16 +185,16 @@ module _ (limit : Option ℕ) (input : List ℕ) where
           so.first,
           so.others,
           so.merged,
-          subst (λ (n : ℕ). RefusesOther limit n (joined_all so.first.cells so.others) document
-              fault) place (subst (λ (es : Entries). RefusesOther limit next es document fault)
-              cells why),
+          subst (λ (n : ℕ). RefusesOther checks n (merged_site so.first so.others) document
+              fault) place (subst (λ (s : SiteState). RefusesOther checks next s document fault)
+              so.site_is why),
         ),
       )
 
   -- the first document is refused
   pub first_refused : (document rest : List ℕ) (fault : DocFault)
       → AreDocuments input document rest → IsOfDocument 1 (RefusesSite document) fault
-      → RefusesMerge input limit fault
+      → RefusesMerge checks input fault
   first_refused document rest fault are why = (
     [],
     document,
@@ -191,7 +205,7 @@ module _ (limit : Option ℕ) (input : List ℕ) where
 
   -- the number of the next document fits
   pub next_fits : (left rest : List (List ℕ)) (document : List ℕ) (number : ℕ) (site : SiteState)
-      → IsMergedTo limit input left number site → left ≡ document ∷ rest
+      → IsMergedTo checks input left number site → left ≡ document ∷ rest
       → number + 1 ≤ length input
   next_fits left rest document number site so is =
       let size = length-append so.before left in

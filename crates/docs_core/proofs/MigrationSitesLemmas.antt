@@ -45,6 +45,7 @@ use Rattle.row_docs.proofs.AscendingKeys.{cells_ascend, stamps_ascend}
 use Rattle.script_docs.specs.Reading.{IsScriptDocument, ReadsAsScript, script_checks}
 use Rattle.script_docs.specs.Scripts.{ScriptState}
 use Rattle.docs_core.specs.Calls.{AreSynced}
+use Rattle.site_docs.specs.declared.checks.Checks.{Checks}
 use Rattle.script_docs.specs.ScriptsMigration.{AreOldStepsOf, IsOldScriptDocument}
 use Rattle.site_docs.specs.DocumentsMigration.{IsOldDeltaDocument}
 use Rattle.site_docs.specs.DocumentsMigration.{IsOldSiteDocument, IsOldSummaryDocument}
@@ -349,14 +350,15 @@ site_read bytes d old site json first is reads =
     (subst IsOldSite same found.1, found.3 ∙ ap migrated_site same)
 
 -- two texts of version 1 sync where their sites agree, and become the migrated join
-pub sync_migrated : (a b x y : List ℕ) (d e : Data) (first second : OldSite) → AreJson a d
-    → version_of d ≡ One → IsOldSiteDocument d first → AreJson b e → version_of e ≡ One
-    → IsOldSiteDocument e second → AreSynced a b x y
+pub sync_migrated : (checks : Checks) (a b x y : List ℕ) (d e : Data) (first second : OldSite)
+    → AreJson a d → version_of d ≡ One → IsOldSiteDocument d first → AreJson b e
+    → version_of e ≡ One → IsOldSiteDocument e second → AreSynced checks a b x y
     → let cells = joined_old first.cells second.cells in
     AgreeOld first.cells second.cells
     × ReadsAsSite x (migrated_site (record { number = first.number; cells = cells }))
     × ReadsAsSite y (migrated_site (record { number = second.number; cells = cells }))
-sync_migrated a b x y d e first second ad av ai bd bv bi (s, t, mine, other, agree, xs, ys) =
+sync_migrated checks a b x y d e first second ad av ai bd bv bi
+    (s, t, mine, other, in_time, others_in_time, none, agree, xs, ys) =
     let left = site_read a d first s ad av ai mine in
     let right = site_read b e second t bd bv bi other in
     let kept = keeps_catalogue_joins first.cells second.cells left.0.cells right.0.cells in

@@ -12,6 +12,5 @@ pub mod Replaying
 pub mod Revised
 pub mod StampedRows
 pub mod SyncedRows
-pub mod TimeLimits
 pub mod Updating
 pub mod UpdatingChanges

@@ -12,5 +12,4 @@ pub(crate) mod revised;
 pub(crate) mod sites;
 pub(crate) mod stamped_rows;
 pub(crate) mod synced_rows;
-pub(crate) mod time_limits;
 pub(crate) mod updating;

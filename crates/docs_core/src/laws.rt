@@ -9,12 +9,14 @@ ghost use Rattle.list_core.specs.Item.{Item};
 ghost use Rattle.nego_core.specs.declared.widening.Widening.{Widening};
 ghost use Rattle.cata_core.specs.Delta.{HasAll, Stamps, delta_of};
 ghost use Rattle.cell_core.specs.Entry.{EntryKey, key_cmp};
-ghost use Rattle.catalogue.specs.Entries.{Agree, Entries, joined};
+ghost use Rattle.catalogue.specs.Entries.{Agree, Entries, Entry, joined};
 ghost use Rattle.catalogue.specs.CatalogueParts.{part_of};
+ghost use Rattle.cata_core.specs.OwnEdits.{IsLackedEdit};
 ghost use Rattle.cata_core.specs.Site.{SiteState};
 ghost use Rattle.cata_core.specs.Summary.{SummaryState};
 ghost use Rattle.cata_core.specs.declared.delta.Delta.{Delta};
 ghost use Rattle.json_docs.specs.declared.fault.DocCause.{DocCause};
+ghost use Rattle.json_docs.specs.declared.fault.DocCause.TheVariants.{OwnEditMissing};
 ghost use Rattle.json_docs.specs.declared.fault.DocFault.{DocFault};
 ghost use Rattle.row_docs.specs.Entries.{cells_values};
 ghost use Rattle.row_docs.specs.Reading.{IsOfDocument};
@@ -35,16 +37,18 @@ ghost use Rattle.query_docs.specs.Outdated.{IsOutdatedMessage, outdated_labels};
 ghost use Rattle.docs_core.specs.Calls.{AreSynced, IsDeltaFor, IsEdited, IsSummarised, IsTaken};
 ghost use Rattle.docs_core.specs.Calls.{RefusesDeltaFor, RefusesEditing, RefusesSync};
 ghost use Rattle.docs_core.specs.Calls.{RefusesTaking};
+ghost use Rattle.site_docs.specs.Checks.{LackNoOwn, LacksNoOwn, ReadsInTime, no_checks, until};
+ghost use Rattle.site_docs.specs.declared.checks.Checks.{Checks};
+ghost use Rattle.site_docs.specs.declared.checks.OwnEdits.{OwnEdits};
+ghost use Rattle.site_docs.specs.declared.checks.OwnEdits.TheVariants.{Checked};
 ghost use Rattle.docs_core.specs.Importing.{IsImported, RefusesImport};
 ghost use Rattle.docs_core.specs.ImportingLabels.{Imports};
 ghost use Rattle.docs_core.specs.Lines.{documents_of};
 ghost use Rattle.docs_core.specs.UpdatingChanges.{Change};
 ghost use Rattle.docs_core.specs.Merging.{AllAgree, IsMerged, ReadAsSites, RefusesMerge};
-ghost use Rattle.docs_core.specs.Merging.{part_of_site};
+ghost use Rattle.docs_core.specs.Merging.{RefusesOther, part_of_site};
 ghost use Rattle.docs_core.specs.Replaying.{Replays};
-ghost use Rattle.docs_core.specs.TimeLimits.{AreSyncedUntil, IsTakenUntil};
 ghost use Rattle.site_docs.specs.RowsInTime.{AreInTime};
-ghost use Rattle.docs_core.specs.TimeLimits.{RefusesSyncUntil, RefusesTakingUntil};
 ghost use Rattle.docs_core.specs.Updating.{AreChanges, IsUpdated, RefusesUpdate, Updates};
 
 pub use row_docs::laws::a_written_text_is_one_line;
@@ -94,16 +98,12 @@ pub fn what_is_answered_is_not_refused()
     ensures edit { (bytes : List ℕ) (now : ℕ) (key : EntryKey) (label : Option (List (List ℕ)))
         (text : List ℕ) (fault : DocFault)
         → IsEdited bytes now key label text → ¬ RefusesEditing bytes now fault }
-    ensures sync { (a b x y : List ℕ) (fault : DocFault)
-        → AreSynced a b x y → ¬ RefusesSync a b fault }
-    ensures sync_until { (a b : List ℕ) (limit : Option ℕ) (x y : List ℕ) (fault : DocFault)
-        → AreSyncedUntil a b limit x y → ¬ RefusesSyncUntil a b limit fault }
-    ensures take { (a b text : List ℕ) (fault : DocFault)
-        → IsTaken a b text → ¬ RefusesTaking a b fault }
-    ensures take_until { (a b : List ℕ) (limit : Option ℕ) (text : List ℕ) (fault : DocFault)
-        → IsTakenUntil a b limit text → ¬ RefusesTakingUntil a b limit fault }
-    ensures merge { (input : List ℕ) (limit : Option ℕ) (text : List ℕ) (fault : DocFault)
-        → IsMerged input limit text → ¬ RefusesMerge input limit fault }
+    ensures sync { (checks : Checks) (a b x y : List ℕ) (fault : DocFault)
+        → AreSynced checks a b x y → ¬ RefusesSync checks a b fault }
+    ensures take { (checks : Checks) (a b text : List ℕ) (fault : DocFault)
+        → IsTaken checks a b text → ¬ RefusesTaking checks a b fault }
+    ensures merge { (checks : Checks) (input text : List ℕ) (fault : DocFault)
+        → IsMerged checks input text → ¬ RefusesMerge checks input fault }
     ensures delta { (a b text : List ℕ) (fault : DocFault)
         → IsDeltaFor a b text → ¬ RefusesDeltaFor a b fault }
     ensures changes { (a b text : List ℕ) (found : Bool) (fault : DocFault)
@@ -121,16 +121,12 @@ pub fn what_is_answered_is_not_refused()
 pub fn one_refusal_of_a_call()
     ensures edit { (bytes : List ℕ) (now : ℕ) (x y : DocFault) → RefusesEditing bytes now x
         → RefusesEditing bytes now y → x ≡ y }
-    ensures sync { (a b : List ℕ) (x y : DocFault) → RefusesSync a b x → RefusesSync a b y
-        → x ≡ y }
-    ensures sync_until { (a b : List ℕ) (limit : Option ℕ) (x y : DocFault)
-        → RefusesSyncUntil a b limit x → RefusesSyncUntil a b limit y → x ≡ y }
-    ensures take { (a b : List ℕ) (x y : DocFault) → RefusesTaking a b x → RefusesTaking a b y
-        → x ≡ y }
-    ensures take_until { (a b : List ℕ) (limit : Option ℕ) (x y : DocFault)
-        → RefusesTakingUntil a b limit x → RefusesTakingUntil a b limit y → x ≡ y }
-    ensures merge { (input : List ℕ) (limit : Option ℕ) (x y : DocFault)
-        → RefusesMerge input limit x → RefusesMerge input limit y → x ≡ y }
+    ensures sync { (checks : Checks) (a b : List ℕ) (x y : DocFault)
+        → RefusesSync checks a b x → RefusesSync checks a b y → x ≡ y }
+    ensures take { (checks : Checks) (a b : List ℕ) (x y : DocFault)
+        → RefusesTaking checks a b x → RefusesTaking checks a b y → x ≡ y }
+    ensures merge { (checks : Checks) (input : List ℕ) (x y : DocFault)
+        → RefusesMerge checks input x → RefusesMerge checks input y → x ≡ y }
     ensures delta { (a b : List ℕ) (x y : DocFault) → RefusesDeltaFor a b x
         → RefusesDeltaFor a b y → x ≡ y }
     ensures changes { (a b : List ℕ) (x y : DocFault) → RefusesChanged a b x
@@ -146,26 +142,27 @@ pub fn one_refusal_of_a_call()
 /// A delta suffices: made against a summary that the site has in full, by a sender that agrees with
 /// it, it leaves the document of the site with all cells of the sender.
 pub fn a_delta_document_suffices()
-    ensures { (a b text : List ℕ) (site : SiteState) (sender : Entries) (told : Stamps)
+    ensures { (checks : Checks) (a b text : List ℕ) (site : SiteState) (sender : Entries)
+        (told : Stamps)
         → ReadsAsSite a site → ReadsAsDelta b
         (record { addressee = site.name; cells = delta_of sender told })
-        → Agree site.cells sender → HasAll site.cells told → IsTaken a b text
+        → Agree site.cells sender → HasAll site.cells told → IsTaken checks a b text
         → IsSiteText (record { name = site.name; cells = joined site.cells sender }) text }
 {}
 
 /// An exchange by documents is a join: a site that takes the delta which another made for its
 /// summary has the document of the cells of both.
 pub fn an_exchange_is_a_join()
-    ensures { (a b told delta taken : List ℕ) (site other : SiteState) → ReadsAsSite a site
-        → ReadsAsSite b other → Agree site.cells other.cells
-        → IsSummarised a told → IsDeltaFor b told delta → IsTaken a delta taken
+    ensures { (checks : Checks) (a b told delta taken : List ℕ) (site other : SiteState)
+        → ReadsAsSite a site → ReadsAsSite b other → Agree site.cells other.cells
+        → IsSummarised a told → IsDeltaFor b told delta → IsTaken checks a delta taken
         → IsSiteText (record { name = site.name; cells = joined site.cells other.cells }) taken }
 {}
 
 /// Synced documents have equal `cells`: those of both sites.
 pub fn synced_documents_have_equal_cells()
-    ensures { (a b x y : List ℕ) (first second : SiteState) → ReadsAsSite a first
-        → ReadsAsSite b second → AreSynced a b x y
+    ensures { (checks : Checks) (a b x y : List ℕ) (first second : SiteState)
+        → ReadsAsSite a first → ReadsAsSite b second → AreSynced checks a b x y
         → let cells = cells_values (joined first.cells second.cells) in
         (x ≡ text (site_value first.name cells)) × (y ≡ text (site_value second.name cells)) }
 {}
@@ -189,35 +186,35 @@ pub fn a_last_line_feed_is_free()
 /// What many sites are merged to is the join of all: above each of them, and below all that is
 /// above each.
 pub fn a_merge_is_the_join_of_all()
-    ensures { (input text : List ℕ) (limit : Option ℕ) (sites : List SiteState) (after : SiteState)
-        → ReadAsSites (documents_of input) sites → IsMerged input limit text
+    ensures { (checks : Checks) (input text : List ℕ) (sites : List SiteState) (after : SiteState)
+        → ReadAsSites (documents_of input) sites → IsMerged checks input text
         → ReadsAsSite text after
         → IsJoinOf Agree joined (map (λ (site : SiteState). site.cells) sites) after.cells }
 {}
 
 /// Where all agree, the documents after the first may come in any order, and each of them again;
-/// without a limit the first may come again too.
+/// without a limit the first may come again too. (Where own edits are looked for, a document that
+/// brings one may come after another that has a later edit of its key, and not before it.)
 pub fn the_order_of_a_merge_is_free()
     ensures others { (a b text : List ℕ) (limit : Option ℕ) (first : List ℕ)
         (rest more : List (List ℕ))
         → documents_of a ≡ first ∷ rest → documents_of b ≡ first ∷ more
         → ((d : List ℕ) → Contains rest d ↔ Contains more d) → AllAgree (first ∷ rest)
-        → IsMerged a limit text → IsMerged b limit text }
+        → IsMerged (until limit) a text → IsMerged (until limit) b text }
     ensures first { (a b text : List ℕ) (first : List ℕ) (rest more : List (List ℕ))
         → documents_of a ≡ first ∷ rest → documents_of b ≡ first ∷ more
         → ((d : List ℕ) → Contains (first ∷ rest) d ↔ Contains (first ∷ more) d)
-        → AllAgree (first ∷ rest) → IsMerged a None text → IsMerged b None text }
+        → AllAgree (first ∷ rest) → IsMerged no_checks a text → IsMerged no_checks b text }
 {}
 
-/// A merge of two sites gives what a sync of them prints first, and is refused as that is.
+/// A merge of two sites gives what a sync of them prints first, and is refused as that is, where
+/// nothing is tested.
 pub fn a_merge_of_two_is_a_sync()
-    ensures until { (input a b x y : List ℕ) (limit : Option ℕ)
-        → documents_of input ≡ a ∷ b ∷ [] → AreSyncedUntil a b limit x y
-        → IsMerged input limit x }
-    ensures synced { (input a b x y : List ℕ) → documents_of input ≡ a ∷ b ∷ []
-        → AreSynced a b x y → IsMerged input None x }
+    ensures synced { (checks : Checks) (input a b x y : List ℕ)
+        → documents_of input ≡ a ∷ b ∷ [] → AreSynced checks a b x y
+        → IsMerged checks input x }
     ensures refused { (input a b : List ℕ) (fault : DocFault) → documents_of input ≡ a ∷ b ∷ []
-        → RefusesMerge input None fault ↔ RefusesSync a b fault }
+        → RefusesMerge no_checks input fault ↔ RefusesSync no_checks a b fault }
 {}
 
 /// The merge of parts is the part of the merge.
@@ -226,43 +223,64 @@ pub fn a_merge_of_parts_is_the_part_of_the_merge()
         (sites : List SiteState) (after : SiteState)
         → ReadAsSites (documents_of whole) sites
         → ReadAsSites (documents_of parts) (map (part_of_site messages) sites)
-        → IsMerged whole limit text → ReadsAsSite text after
-        → IsSiteText (part_of_site messages after) doc → IsMerged parts limit doc }
+        → IsMerged (until limit) whole text → ReadsAsSite text after
+        → IsSiteText (part_of_site messages after) doc → IsMerged (until limit) parts doc }
 {}
 
-// ---- limits on times
+// ---- checks of what comes in
 
-/// What is taken under a limit is what is taken without one, of documents with no time after it.
-pub fn a_limit_takes_the_same()
-    ensures taken { (a b text : List ℕ) (limit : Option ℕ)
-        → IsTakenUntil a b limit text ↔ (IsTaken a b text × ((delta : Delta)
-        → ReadsAsDelta b delta → AreInTime limit delta.cells)) }
-    ensures synced { (a b x y : List ℕ) (limit : Option ℕ)
-        → AreSyncedUntil a b limit x y ↔ (AreSynced a b x y × ((site : SiteState)
-        → ReadsAsSite a site ⊎ ReadsAsSite b site → AreInTime limit site.cells)) }
-{}
-
-/// Without a limit nothing more is refused.
-pub fn without_a_limit_nothing_more_is_refused()
-    ensures taking { (a b : List ℕ) (fault : DocFault) → RefusesTakingUntil a b None fault
-        → RefusesTaking a b fault }
-    ensures sync { (a b : List ℕ) (fault : DocFault) → RefusesSyncUntil a b None fault
-        → RefusesSync a b fault }
+/// What is taken under checks is what is taken without them, of documents that pass: no time is
+/// after the limit, and, if that is tested, no row is an edit that its taker made and lacks.
+pub fn checks_take_the_same()
+    ensures taken { (checks : Checks) (a b text : List ℕ) → IsTaken checks a b text
+        ↔ (IsTaken no_checks a b text × ((site : SiteState) (delta : Delta)
+        → ReadsAsSite a site → ReadsAsDelta b delta → AreInTime checks.not_after delta.cells
+        × LacksNoOwn checks.own_edits site delta.cells)) }
+    ensures synced { (checks : Checks) (a b x y : List ℕ) → AreSynced checks a b x y
+        ↔ (AreSynced no_checks a b x y × ((first second : SiteState)
+        → ReadsAsSite a first → ReadsAsSite b second → AreInTime checks.not_after first.cells
+        × AreInTime checks.not_after second.cells × LackNoOwn checks.own_edits first second)) }
+    ensures merged { (checks : Checks) (input text : List ℕ) → IsMerged checks input text
+        → IsMerged no_checks input text }
 {}
 
 /// No cell that comes in under a limit has a time after it. After a take each other cell was there
 /// before; after a sync no cell has a later time.
 pub fn what_comes_in_is_in_the_limit()
-    ensures taken { (a b text : List ℕ) (limit : ℕ) (site after : SiteState) (key : EntryKey)
-        (cell : Cell)
-        → ReadsAsSite a site → ReadsAsSite text after → IsTakenUntil a b (Some limit) text
+    ensures taken { (own : OwnEdits) (a b text : List ℕ) (limit : ℕ) (site after : SiteState)
+        (key : EntryKey) (cell : Cell) → ReadsAsSite a site → ReadsAsSite text after
+        → IsTaken (record { not_after = Some limit; own_edits = own }) a b text
         → find key_cmp key after.cells ≡ Some cell
         → (find key_cmp key site.cells ≡ Some cell) ⊎ (cell.stamp.time ≤ limit) }
-    ensures synced { (a b x y : List ℕ) (limit : ℕ) (after : SiteState) (key : EntryKey)
-        (cell : Cell)
-        → ReadsAsSite x after ⊎ ReadsAsSite y after → AreSyncedUntil a b (Some limit) x y
+    ensures synced { (own : OwnEdits) (a b x y : List ℕ) (limit : ℕ) (after : SiteState)
+        (key : EntryKey) (cell : Cell) → ReadsAsSite x after ⊎ ReadsAsSite y after
+        → AreSynced (record { not_after = Some limit; own_edits = own }) a b x y
         → find key_cmp key after.cells ≡ Some cell
         → cell.stamp.time ≤ limit }
+{}
+
+/// An edit that its site made and lacks is never passed over in silence. Where own edits are looked
+/// for, an exchange that would bring one is refused by 30, of the document that has it: a delta for
+/// the site, either of two sites, or the next site of a merge.
+pub fn a_missing_own_edit_is_refused()
+    ensures taken { (limit : Option ℕ) (a b : List ℕ) (site : SiteState) (delta : Delta)
+        (edit : Entry) → ReadsAsSite a site → ReadsInTime limit b delta
+        → site.name ≡ delta.addressee → Contains delta.cells edit
+        → IsLackedEdit site.name site.cells edit
+        → (row : ℕ) × RefusesTaking (record { not_after = limit; own_edits = Checked }) a b
+        (record { document = 2; cause = OwnEditMissing row }) }
+    ensures synced { (limit : Option ℕ) (a b : List ℕ) (first second : SiteState) (edit : Entry)
+        → ReadsAsSite a first → ReadsAsSite b second → AreInTime limit first.cells
+        → AreInTime limit second.cells
+        → (Contains first.cells edit × IsLackedEdit second.name second.cells edit)
+        ⊎ (Contains second.cells edit × IsLackedEdit first.name first.cells edit)
+        → (document row : ℕ) × RefusesSync (record { not_after = limit; own_edits = Checked }) a b
+        (record { document = document; cause = OwnEditMissing row }) }
+    ensures merged { (limit : Option ℕ) (number : ℕ) (site other : SiteState) (b : List ℕ)
+        (edit : Entry) → ReadsAsSite b other → AreInTime limit other.cells
+        → Contains other.cells edit → IsLackedEdit site.name site.cells edit
+        → (row : ℕ) × RefusesOther (record { not_after = limit; own_edits = Checked }) number site b
+        (record { document = number; cause = OwnEditMissing row }) }
 {}
 
 // ---- imports

@@ -7,8 +7,8 @@
 //!   [`bundle_document`], [`missing_document`], [`outdated_document`], [`changes_document`],
 //!   [`sync_documents`], [`merge_documents`], [`summary_document`], [`delta_document`],
 //!   [`take_document`], [`ask_document`] and [`status_document`] work on whole documents, from
-//!   bytes to bytes; [`take_document_until`] and [`sync_documents_until`] under a limit on times.
-//!   [`two_documents`] and [`Lines`] cut an input into its documents.
+//!   bytes to bytes. By [`Checks`] an exchange tests what comes in. [`two_documents`] and [`Lines`]
+//!   cut an input into its documents.
 //! - [`read_message`] reads of a site what a question about one message needs.
 //! - [`filter_lines`], [`reply_line`], [`status_line`], [`changes_lines`], [`write_live_labels`],
 //!   [`write_missing`], [`write_outdated`] and [`write_bundle`] write the answers of a site in
@@ -36,9 +36,6 @@ pub use call::replaying::replay;
 pub use call::sites::{
     delta_document, edit_document, summary_document, sync_documents, take_document,
 };
-pub use call::time_limits::{
-    first_row_ahead, read_delta_until, sync_documents_until, take_document_until,
-};
 pub use call::updating::{update_document, update_labels};
 pub use json_docs::{
     Doc, DocCause, DocFault, FieldFault, Input, MAX_BYTES, Output, Sink, Source, Spot, read_all,
@@ -53,4 +50,7 @@ pub use query_docs::{
     write_live_labels, write_missing, write_outdated,
 };
 pub use script_docs::{Script, read_script, write_script};
-pub use site_docs::{read_delta, read_site, read_summary, write_delta, write_site, write_summary};
+pub use site_docs::{
+    Checks, OwnEdits, first_row_ahead, read_delta, read_delta_until, read_site, read_summary,
+    write_delta, write_site, write_summary,
+};

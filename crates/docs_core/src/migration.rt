@@ -14,6 +14,7 @@ ghost use Rattle.row_docs.specs.declared.version.Version.TheVariants.{One};
 ghost use Rattle.script_docs.specs.Reading.{ReadsAsScript};
 ghost use Rattle.script_docs.specs.Scripts.{ScriptState};
 ghost use Rattle.docs_core.specs.Calls.{AreSynced};
+ghost use Rattle.site_docs.specs.declared.checks.Checks.{Checks};
 ghost use Rattle.site_docs.specs.DocumentsMigration.{IsOldDeltaDocument};
 ghost use Rattle.script_docs.specs.ScriptsMigration.{IsOldScriptDocument};
 ghost use Rattle.site_docs.specs.DocumentsMigration.{IsOldSiteDocument, IsOldSummaryDocument};
@@ -50,9 +51,10 @@ pub fn a_text_reads_as_migrated()
 /// Where two sites of version 1 sync, they agree as they are, and each of the documents reads as
 /// its site with the migrated join of both.
 pub fn a_sync_gives_the_migrated_join()
-    ensures { (a b x y : List ℕ) (d e : Data) (first second : OldSite) → AreJson a d
+    ensures { (checks : Checks) (a b x y : List ℕ) (d e : Data) (first second : OldSite)
+        → AreJson a d
         → version_of d ≡ One → IsOldSiteDocument d first → AreJson b e → version_of e ≡ One
-        → IsOldSiteDocument e second → AreSynced a b x y
+        → IsOldSiteDocument e second → AreSynced checks a b x y
         → let cells = joined_old first.cells second.cells in
         AgreeOld first.cells second.cells
         × ReadsAsSite x (migrated_site (record { number = first.number; cells = cells }))

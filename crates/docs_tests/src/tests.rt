@@ -10,6 +10,7 @@ mod exchange;
 mod lang_maps;
 mod lines;
 mod merges;
+mod own_edits;
 mod questions;
 mod reading;
 mod refusals;

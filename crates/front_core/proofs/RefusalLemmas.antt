@@ -5,12 +5,12 @@ use Rattle.std.proofs.lemmas.Bool.Decides.{nat_tests}
 use Rattle.std.proofs.lemmas.Option.{slice_get_past}
 use Rattle.front_core.specs.Refusal.{refusal_of, refusals}
 
--- there are 29
-count : length refusals ≡ 29
+-- there are 30
+count : length refusals ≡ 30
 count = refl
 
--- A number above 29 has no refusal.
-pub above_has_none : (number : ℕ) → 29 < number → refusal_of number ≡ None
+-- A number above 30 has no refusal.
+pub above_has_none : (number : ℕ) → 30 < number → refusal_of number ≡ None
 above_has_none number h =
     let some : (number == 0) ≡ false = grind (arith, nat_tests, h) in
     let past : length refusals ≤ number - 1 = rw count (omega (arith, h)) in

@@ -13,7 +13,7 @@ use Rattle.json_docs.specs.FaultChecks.{OrMemory}
 use Rattle.row_docs.specs.Reading.{no_memory, IsOfDocument}
 use Rattle.map_docs.specs.MapsLabels.{AreLangMaps, RefusesLangMaps}
 use Rattle.map_docs.specs.Maps.{Labelled}
-use Rattle.docs_core.specs.TimeLimits.{ReadsInTime, RefusesDeltaUntil}
+use Rattle.site_docs.specs.Checks.{ReadsInTime, RefusesDeltaUntil}
 use Rattle.docs_core.specs.ImportingLabels.{Imports, SpendsImport}
 use Rattle.docs_core.specs.Updating.{SpendsUpdate, Updates}
 use Rattle.front_core.specs.Change.{HasKey, HasLabel, IsChanged, IsDelete, IsPut, RefusesChange}

@@ -6,9 +6,9 @@ use Rattle.lang_core.specs.Fault.{meaning_of}
 use Rattle.front_core.specs.declared.refusal.Refusal.{Refusal}
 use Rattle.lang_core.specs.declared.fault.LangFault.TheVariants as lang
 
--- a refusal has the number: each from 1 to 29 is one
+-- a refusal has the number: each from 1 to 30 is one
 abbrev pub IsRefusalNumber : ℕ → Type 0
-IsRefusalNumber number = (1 ≤ number) × (number ≤ 29)
+IsRefusalNumber number = (1 ≤ number) × (number ≤ 30)
 
 -- what is printed, what is wanted, what there is instead, and what to do, each without an end mark
 pub record RefusalTexts : Type 0 where
@@ -418,13 +418,28 @@ texts_29 =
           ++ codes "as docs/RECIPES.md says under A time far ahead";
     }
 
--- the texts of the refusals 1 to 29, in their order
+-- what refusal 30 means, what causes it, and what to do
+abbrev texts_30 : RefusalTexts
+texts_30 =
+    record {
+      text = codes "an edit of this site is missing here";
+      meaning =
+          codes "a site has each edit that it made, or a later one of that label";
+      cause =
+          codes "row R is an edit of the site that takes it, which that site lacks: it was put "
+          ++ codes "back to an older copy, or another site has its name";
+      remedy =
+          codes "before the next edit take in what every other site has, without --check-own; "
+          ++ codes "if two sites have one name, give one of them another";
+    }
+
+-- the texts of the refusals 1 to 30, in their order
 abbrev pub refusals : List RefusalTexts
 refusals =
     texts_1 ∷ texts_2 ∷ texts_3 ∷ texts_4 ∷ texts_5 ∷ texts_6 ∷ texts_7 ∷ texts_8 ∷ texts_9
     ∷ texts_10 ∷ texts_11 ∷ texts_12 ∷ texts_13 ∷ texts_14 ∷ texts_15 ∷ texts_16 ∷ texts_17
     ∷ texts_18 ∷ texts_19 ∷ texts_20 ∷ texts_21 ∷ texts_22 ∷ texts_23 ∷ texts_24 ∷ texts_25
-    ∷ texts_26 ∷ texts_27 ∷ texts_28 ∷ texts_29 ∷ []
+    ∷ texts_26 ∷ texts_27 ∷ texts_28 ∷ texts_29 ∷ texts_30 ∷ []
 
 -- the texts of the refusal of this number
 abbrev pub refusal_of : ℕ → Option RefusalTexts

@@ -19,25 +19,25 @@ pub struct Refusal {
     pub remedy: &'static str,
 }
 
-/// The refusal of a number, from 1 to 29; other numbers have none.
+/// The refusal of a number, from 1 to 30; other numbers have none.
 ///
 /// ```text
 /// explain(27)?.meaning  "a site name has 1 to 16 bytes of a to z, 0 to 9 and -"
-/// explain(30)           None
+/// explain(31)           None
 /// ```
 pub fn explain(number: u8) -> Option<Refusal>
     ensures number { IsSome result ↔ IsRefusalNumber number }
     ensures texts { option_map refusal_texts result ≡ refusal_of number }
 {
     match number {
-        1..=29 => Some(refusal_at(number)),
+        1..=30 => Some(refusal_at(number)),
         _ => None,
     }
 }
 
 /// The refusal of a number that has one.
 fn refusal_at(number: u8) -> Refusal
-    requires { (1 ≤ number) × (number ≤ 29) }
+    requires { (1 ≤ number) × (number ≤ 30) }
     ensures { Some (refusal_texts result) ≡ refusal_of number }
 {
     match number {
@@ -237,9 +237,9 @@ fn of_document(number: u8) -> Refusal
     }
 }
 
-/// Of input, output or memory; of the name of a site, a version or a time.
+/// Of input, output or memory; of the name of a site, a version, a time or an edit that is missing.
 fn of_run_or_name(number: u8) -> Refusal
-    requires { (23 ≤ number) × (number ≤ 29) }
+    requires { (23 ≤ number) × (number ≤ 30) }
     ensures { Some (refusal_texts result) ≡ refusal_of number }
 {
     match number {
@@ -290,6 +290,14 @@ fn of_run_or_name(number: u8) -> Refusal
                 time that somebody made",
             remedy: "set the clock right, and drop the cells of that time where they come from, as \
                 docs/RECIPES.md says under A time far ahead",
+        },
+        30 => Refusal {
+            text: "an edit of this site is missing here",
+            meaning: "a site has each edit that it made, or a later one of that label",
+            cause: "row R is an edit of the site that takes it, which that site lacks: it was put \
+                back to an older copy, or another site has its name",
+            remedy: "before the next edit take in what every other site has, without --check-own; \
+                if two sites have one name, give one of them another",
         },
         _ => unreachable!(),
     }

@@ -18,7 +18,7 @@ use Rattle.json_docs.specs.declared.fault.DocCause.TheVariants.{NotUtf8, NotJson
 use Rattle.json_docs.specs.declared.fault.DocCause.TheVariants.{CellOrder, RepeatedTag, TooLarge}
 use Rattle.json_docs.specs.declared.fault.DocCause.TheVariants.{ReadFault, WriteFault, NoMemory}
 use Rattle.json_docs.specs.declared.fault.DocCause.TheVariants.{SiteName, VersionUnknown, TimeAhead}
-use Rattle.json_docs.specs.declared.fault.DocCause.TheVariants.{Site, Step}
+use Rattle.json_docs.specs.declared.fault.DocCause.TheVariants.{OwnEditMissing, Site, Step}
 use Rattle.json_docs.specs.declared.fault.DocFault.{DocFault}
 
 -- the number of a refusal of a field is that of the layer which refuses it
@@ -42,6 +42,7 @@ number_of NoMemory = 26
 number_of SiteName = 27
 number_of VersionUnknown = 28
 number_of (TimeAhead row) = 29
+number_of (OwnEditMissing row) = 30
 number_of (Site fault) = cata_number fault
 number_of (Step fault) = play_number fault
 
@@ -57,6 +58,7 @@ row_of (Field row fault) = Some row
 row_of (CellOrder row) = Some row
 row_of (RepeatedTag row) = Some row
 row_of (TimeAhead row) = Some row
+row_of (OwnEditMissing row) = Some row
 row_of _ = None
 
 -- a refusal that means no input document

@@ -94,6 +94,9 @@ pub enum DocCause {
     /// The time of a row is greater than the limit that was given.
     #[error("time is ahead")]
     TimeAhead { row: usize },
+    /// A row is an edit of the site that takes it, which the site lacks or has at a lesser stamp.
+    #[error("an edit of this site is missing here")]
+    OwnEditMissing { row: usize },
     /// The site refuses the call: a stamp used twice, an exhausted clock, or another site's delta.
     #[error(transparent)]
     Site(CataFault),
@@ -123,6 +126,7 @@ impl DocCause {
             DocCause::SiteName => 27,
             DocCause::VersionUnknown => 28,
             DocCause::TimeAhead { .. } => 29,
+            DocCause::OwnEditMissing { .. } => 30,
             DocCause::Site(fault) => fault.number(),
             DocCause::Step(fault) => fault.number(),
         }
@@ -139,7 +143,8 @@ impl DocCause {
             | DocCause::Field { row, .. }
             | DocCause::CellOrder { row }
             | DocCause::RepeatedTag { row }
-            | DocCause::TimeAhead { row } => Some(*row),
+            | DocCause::TimeAhead { row }
+            | DocCause::OwnEditMissing { row } => Some(*row),
             _ => None,
         }
     }

@@ -1,3 +1,5 @@
+pub mod ChecksLemmas
+pub mod ChecksRowsFit
 pub mod DocumentsLemmas
 pub mod DocumentsMigrationLemmas
 pub mod EnvelopeLemmas

@@ -1,3 +1,4 @@
+pub mod Checks
 pub mod Documents
 pub mod DocumentsMigration
 pub mod DocumentsValues

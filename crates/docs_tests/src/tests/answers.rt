@@ -1,7 +1,23 @@
 //! What a call answers: a document, its lines, or the line of its refusal.
 
-use docs_core::{Doc, DocFault};
+use docs_core::{Checks, Doc, DocFault, OwnEdits};
 use std::fmt::InlineText;
+
+/// Checks of times alone, with this limit.
+pub fn until(limit: u64) -> Checks {
+    Checks {
+        not_after: Some(limit),
+        own_edits: OwnEdits::Unchecked,
+    }
+}
+
+/// Checks of own edits, without a limit.
+pub fn own_edits() -> Checks {
+    Checks {
+        not_after: None,
+        own_edits: OwnEdits::Checked,
+    }
+}
 
 /// Whether this text, and a line feed, is the document, or this line says why it is refused.
 pub fn is_line(answer: Result<Doc, DocFault>, line: &str) -> bool {

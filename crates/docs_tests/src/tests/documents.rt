@@ -3,7 +3,7 @@
 use super::answers::{is_line, is_pair};
 use cell_core::{Label, MessageId};
 use docs_core::{
-    Doc, DocFault, delta_document, edit_document, read_delta, read_site, read_summary,
+    Checks, Doc, DocFault, delta_document, edit_document, read_delta, read_site, read_summary,
     sync_documents, take_document, write_delta, write_site, write_summary,
 };
 use lang_core::Lang;
@@ -111,7 +111,7 @@ fn delta(alloc: Global, site: &str, summary: &str) -> Result<Doc, DocFault> {
 }
 
 fn taken(alloc: Global, site: &str, delta: &str) -> Result<Doc, DocFault> {
-    take_document(alloc, site.as_bytes(), delta.as_bytes())
+    take_document(alloc, site.as_bytes(), delta.as_bytes(), Checks::none())
 }
 
 #[test]
@@ -130,6 +130,11 @@ fn a_delta_is_made_and_taken(rt: HostRuntime) {
 /// A deletion after a put.
 #[test]
 fn a_sync(rt: HostRuntime) {
-    let synced = sync_documents(rt.alloc(), EDITED.as_bytes(), HELD.as_bytes());
+    let synced = sync_documents(
+        rt.alloc(),
+        EDITED.as_bytes(),
+        HELD.as_bytes(),
+        Checks::none(),
+    );
     assert!(rt; is_pair(synced, FIRST_HELD.trim_end(), HELD.trim_end()));
 }

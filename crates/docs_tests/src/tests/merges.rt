@@ -1,7 +1,7 @@
 //! Many sites, merged into the first of them.
 
-use super::answers::is_line;
-use docs_core::merge_documents;
+use super::answers::{is_line, until};
+use docs_core::{Checks, merge_documents};
 
 const PARIS: &str =
     "{\"cells\":[[\"m\",\"en\",5,\"paris\",0,[\"a\"]]],\"kind\":\"site\",\"site\":\"paris\",\
@@ -18,22 +18,22 @@ const MERGED: &str =
 
 #[test]
 fn three_sites_are_merged(rt: HostRuntime) {
-    let merged = merge_documents(rt.alloc(), THREE.as_bytes(), None);
+    let merged = merge_documents(rt.alloc(), THREE.as_bytes(), Checks::none());
     assert!(rt; is_line(merged, MERGED));
-    let merged = merge_documents(rt.alloc(), THREE.as_bytes(), Some(7));
+    let merged = merge_documents(rt.alloc(), THREE.as_bytes(), until(7));
     assert!(rt; is_line(merged, MERGED));
 }
 
 #[test]
 fn a_time_of_the_second_is_ahead(rt: HostRuntime) {
-    let refused = merge_documents(rt.alloc(), THREE.as_bytes(), Some(6));
+    let refused = merge_documents(rt.alloc(), THREE.as_bytes(), until(6));
     assert!(rt; is_line(refused, "refused 29: time is ahead in row 0 of document 2"));
 }
 
 #[test]
 fn one_site_is_as_it_was(rt: HostRuntime) {
-    let merged = merge_documents(rt.alloc(), PARIS.as_bytes(), Some(4));
+    let merged = merge_documents(rt.alloc(), PARIS.as_bytes(), until(4));
     assert!(rt; is_line(merged, PARIS.trim_end()));
-    let refused = merge_documents(rt.alloc(), b"", None);
+    let refused = merge_documents(rt.alloc(), b"", Checks::none());
     assert!(rt; is_line(refused, "refused 19: not JSON of document 1"));
 }

@@ -1,10 +1,8 @@
 //! Deltas and sites with times after a limit.
 
-use super::answers::{is_line, is_pair, is_refusal};
+use super::answers::{is_line, is_pair, is_refusal, until};
 use cata_core::Catalogue;
-use docs_core::{
-    first_row_ahead, read_delta, read_delta_until, sync_documents_until, take_document_until,
-};
+use docs_core::{first_row_ahead, read_delta, read_delta_until, sync_documents, take_document};
 use std::test::Fail;
 
 const SITE: &str =
@@ -32,16 +30,16 @@ const AHEAD_IN_ROW_1: &str = "refused 29: time is ahead in row 1 of document 2";
 #[test]
 fn a_delta_is_taken_or_refused(rt: HostRuntime) {
     let (site, delta) = (SITE.as_bytes(), DELTA.as_bytes());
-    let taken = take_document_until(rt.alloc(), site, delta, Some(102));
+    let taken = take_document(rt.alloc(), site, delta, until(102));
     assert!(rt; is_line(taken, TAKEN.trim_end()));
-    let taken = take_document_until(rt.alloc(), site, delta, Some(100));
+    let taken = take_document(rt.alloc(), site, delta, until(100));
     assert!(rt; is_line(taken, AHEAD_IN_ROW_1));
 }
 
 #[test]
 fn a_sync_is_refused(rt: HostRuntime) {
     let (first, second) = (AHEAD.as_bytes(), OTHER.as_bytes());
-    let synced = sync_documents_until(rt.alloc(), first, second, Some(100));
+    let synced = sync_documents(rt.alloc(), first, second, until(100));
     assert!(rt;
         is_pair(
             synced,
@@ -58,7 +56,7 @@ const SYNCED: &str =
 #[test]
 fn sites_in_the_limit_are_synced(rt: HostRuntime) {
     let (first, second) = (AHEAD.as_bytes(), OTHER.as_bytes());
-    let synced = sync_documents_until(rt.alloc(), first, second, Some(101));
+    let synced = sync_documents(rt.alloc(), first, second, until(101));
     assert!(rt; is_pair(synced, AHEAD.trim_end(), SYNCED));
 }
 

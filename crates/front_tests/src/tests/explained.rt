@@ -5,7 +5,7 @@ use std::process::Abort;
 
 #[test]
 fn no_refusal(rt: HostRuntime) {
-    for number in [0, 30, 255] {
+    for number in [0, 31, 255] {
         assert!(rt; explain(number).is_none(), "{number}");
     }
 }

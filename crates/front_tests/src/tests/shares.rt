@@ -2,7 +2,7 @@
 
 use cata_core::CataFault;
 use cell_core::{SiteName, Stamp};
-use docs_core::{Doc, import_document, sync_documents, take_document, update_document};
+use docs_core::{Checks, Doc, import_document, sync_documents, take_document, update_document};
 use front_core::{Change, FrontFault, OpenSite, Question, SiteIn, View};
 use std::alloc::Global;
 use std::process::Abort;
@@ -83,7 +83,7 @@ fn edited(
         }
         2 => {
             open.merge(alloc, OpenSite::read(alloc, OTHER)?.site())?;
-            sync_documents(alloc, document, OTHER)?.0
+            sync_documents(alloc, document, OTHER, Checks::none())?.0
         }
         3 => {
             open.delete(alloc, now, b"n", b"en")?;
@@ -91,7 +91,7 @@ fn edited(
         }
         4 => {
             open.take(alloc, DELTA, None)?;
-            take_document(alloc, document, DELTA)?
+            take_document(alloc, document, DELTA, Checks::none())?
         }
         _ => {
             open.update(alloc, now, old, new)?;

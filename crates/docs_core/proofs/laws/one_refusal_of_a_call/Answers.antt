@@ -1,6 +1,5 @@
 use Rattle.docs_core.proofs.CallLaws.{one_changes_call, one_delta_call, one_edit, one_import}
-use Rattle.docs_core.proofs.CallLaws.{one_plain_sync, one_plain_take, one_sync, one_take}
-use Rattle.docs_core.proofs.CallLaws.{one_update}
+use Rattle.docs_core.proofs.CallLaws.{one_sync, one_take, one_update}
 use Rattle.docs_core.proofs.CallRefusals.{one_of_site_document}
 use Rattle.docs_core.proofs.MergingLaws.{one_merge_refusal}
 use Rattle.docs_core.proofs.laws.one_refusal_of_a_call.Goals as goal
@@ -9,16 +8,10 @@ pub returns-clause-edit : goal.returns-clause-edit
 returns-clause-edit c = one_edit
 
 pub returns-clause-sync : goal.returns-clause-sync
-returns-clause-sync c = one_plain_sync
-
-pub returns-clause-sync_until : goal.returns-clause-sync_until
-returns-clause-sync_until c = one_sync
+returns-clause-sync c = one_sync
 
 pub returns-clause-take : goal.returns-clause-take
-returns-clause-take c = one_plain_take
-
-pub returns-clause-take_until : goal.returns-clause-take_until
-returns-clause-take_until c = one_take
+returns-clause-take c = one_take
 
 pub returns-clause-merge : goal.returns-clause-merge
 returns-clause-merge c = one_merge_refusal

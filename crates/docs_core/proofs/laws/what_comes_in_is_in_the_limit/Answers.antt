@@ -1,4 +1,4 @@
-use Rattle.docs_core.proofs.TimeLimitsLemmas.{synced_in_time, taken_in_time}
+use Rattle.docs_core.proofs.SitesChecksLemmas.{synced_in_time, taken_in_time}
 use Rattle.docs_core.proofs.laws.what_comes_in_is_in_the_limit.Goals as goal
 
 pub returns-clause-taken : goal.returns-clause-taken

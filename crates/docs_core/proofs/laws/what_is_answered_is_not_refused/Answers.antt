@@ -1,7 +1,6 @@
 use Rattle.docs_core.proofs.CallLaws.{changes_not_refused, delta_call_not_refused}
-use Rattle.docs_core.proofs.CallLaws.{edit_not_refused, import_not_refused, plain_sync_not_refused}
-use Rattle.docs_core.proofs.CallLaws.{plain_take_not_refused, sync_not_refused, take_not_refused}
-use Rattle.docs_core.proofs.CallLaws.{update_not_refused}
+use Rattle.docs_core.proofs.CallLaws.{edit_not_refused, import_not_refused, sync_not_refused}
+use Rattle.docs_core.proofs.CallLaws.{take_not_refused, update_not_refused}
 use Rattle.docs_core.proofs.CallRefusals.{site_not_refused}
 use Rattle.docs_core.proofs.MergingLaws.{merge_not_refused}
 use Rattle.docs_core.proofs.laws.what_is_answered_is_not_refused.Goals as goal
@@ -10,16 +9,10 @@ pub returns-clause-edit : goal.returns-clause-edit
 returns-clause-edit c = edit_not_refused
 
 pub returns-clause-sync : goal.returns-clause-sync
-returns-clause-sync c = plain_sync_not_refused
-
-pub returns-clause-sync_until : goal.returns-clause-sync_until
-returns-clause-sync_until c = sync_not_refused
+returns-clause-sync c = sync_not_refused
 
 pub returns-clause-take : goal.returns-clause-take
-returns-clause-take c = plain_take_not_refused
-
-pub returns-clause-take_until : goal.returns-clause-take_until
-returns-clause-take_until c = take_not_refused
+returns-clause-take c = take_not_refused
 
 pub returns-clause-merge : goal.returns-clause-merge
 returns-clause-merge c = merge_not_refused

@@ -5,4 +5,4 @@ use Rattle.docs_core.proofs.call.merging.merge_documents.Given as goal
 -- the documents before the lines that are left are merged
 abbrev pub invariant-loop-other : goal.invariant-loop-other
 invariant-loop-other l =
-    IsMergedTo l.not_after l.sites (lines_left l.other-iterator) l.document l.site
+    IsMergedTo l.checks l.sites (lines_left l.other-iterator) l.document l.site

@@ -1,0 +1,13 @@
+use Rattle.std.proofs.Common.{refl}
+use Rattle.std.proofs.lemmas.Result.{IfOk-weaker}
+use Rattle.clap.specs.Words.{app_of}
+use Rattle.command_core.specs.ArgumentsWords.{IsCommand}
+use Rattle.command_core.proofs.ArgumentsLemmas.{added}
+use Rattle.command_core.proofs.arguments.with_checks.Goals as goal
+
+pub returns : goal.returns
+returns c =
+    let start : IsCommand (app_of c.args.command) c.args.command = (refl, c.requires) in
+    let has_limit = added _ _ _ _ _ start c.in_ok-arg.ensures c.not_after.ensures in
+    IfOk-weaker c.arg-2.result _ _ (λ r h. added _ _ _ _ _ has_limit h c.check_own.ensures)
+    c.arg-2.ensures
