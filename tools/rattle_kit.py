@@ -38,6 +38,11 @@ def version():
     return subprocess.run([command(), "version"], capture_output=True, text=True).stdout.strip()
 
 
+def logic():
+    """Returns what the kit says of its logic. Kits that prove from the same one say the same."""
+    return version().partition(" ")[2]
+
+
 def is_known():
     """Returns whether the kit is one of those that this module was tried with. With another one
     crates are proved by `rt ci` alone, and what is faster, or no command of `rt`, is left out."""

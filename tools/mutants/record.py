@@ -1,12 +1,14 @@
 """The record of mutants: which came to what they must when they were last tried, each beside the
 same sources (docs/maintaining/GATE.md).
 
-A line is a crate and a sum for each of its mutants. The sum is of all that the verdict follows from:
-the kit, the mutant, the function that it changes with the files of its proof, and what all functions
-of the crate rest on. That are the crate's sources without the bodies of other functions, its
-definitions and lemmas, and of each library below what a crate above it reads, its interface,
-definitions and lemmas. A body of another function has no part in it, since a function is proved from
-its own body and the contracts of what it calls. Lines that are comments alone are left out.
+A line is a crate and a sum for each of its mutants. The sum is of all that the verdict follows
+from: the kit's logic, the mutant, the function that it changes with the files of its proof, and
+what all functions of the crate rest on. That are the crate's sources without the bodies of other
+functions, its definitions and lemmas, and of each library below what a crate above it reads, its
+interface, definitions and lemmas. A body of another function has no part in it, since a function is
+proved from its own body and the contracts of what it calls. Lines that are comments alone are left
+out. So is the kit's name: another kit of the same logic may find proofs that this one does not, and
+the tenth that each run tries anew would show it.
 
 A mutant that came to anything else, or that was refused at a limit of the prover, is not in the
 record, and so is tried again.
@@ -37,8 +39,8 @@ def verdict_of(is_refused, has_given_up):
 class Record:
     """The sums of a file, by their crates, and those of this run."""
 
-    def __init__(self, path, version):
-        self.version, self.libraries, self.known, self.new = version, {}, {}, {}
+    def __init__(self, path, logic):
+        self.logic, self.libraries, self.known, self.new = logic, {}, {}, {}
         self.writing = threading.Lock()
         if os.path.isfile(path):
             with open(path, encoding="utf-8") as it:
@@ -92,7 +94,7 @@ class Record:
             sources = texts_of([f"{crate.folder}/src"], without_bodies)
             others = texts_of([f"{crate.folder}/specs"], without_comments)
             lemmas = [it for it in texts_of_proofs(crate) if os.sep not in it[0]]
-            found = sum_of(self.version, kind, repr(below), *sources, *others, repr(lemmas))
+            found = sum_of(self.logic, kind, repr(below), *sources, *others, repr(lemmas))
             self.libraries[crate.name, "above"] = found
         return found
 
