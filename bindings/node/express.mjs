@@ -1,4 +1,4 @@
-// Middleware of express's form, in the addon and in the package of the module alike.
+// Middleware of express's form.
 import { Site, WrittenSite, pick } from './node.mjs';
 
 // A refusal of the field: it is too long, or has a malformed element and `lenient` is false.

@@ -1,6 +1,6 @@
 import assert from 'node:assert/strict';
 
-const CLOSED = { name: 'Error', message: 'the site is closed' };
+const CLOSED = { name: 'Error', message: /^the site is closed/ };
 
 function wrongType(name) {
   return { name: 'TypeError', message: new RegExp(`^${name} must be `) };

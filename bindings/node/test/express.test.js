@@ -3,8 +3,8 @@ import http from 'node:http';
 import { createRequire } from 'node:module';
 import { once } from 'node:events';
 import test from 'node:test';
-import { Site, WrittenSite } from '../node.mjs';
-import { languages } from '../express.mjs';
+import { Site, WrittenSite } from 'silkwaram';
+import { languages } from 'silkwaram/express';
 import { GREETINGS, siteDocument } from './documents.js';
 
 const TAGS = ['en', 'fr', 'de-CH'];

@@ -1,6 +1,6 @@
 import assert from 'node:assert/strict';
 import test from 'node:test';
-import { filter, pick } from '../node.mjs';
+import { filter, pick } from 'silkwaram';
 import { wrongType } from './documents.js';
 
 test('the tag comes back as it was given', () => {
@@ -100,8 +100,9 @@ test('an error of a getter among the tags is passed on', () => {
 });
 
 test('the package has the names of its types', async () => {
-  const names = Object.keys(await import('../node.mjs')).sort();
-  assert.deepEqual(names, ['Refused', 'Site', 'WrittenSite', 'filter', 'pick', 'refusal', 'version']);
+  const names = Object.keys(await import('silkwaram')).sort();
+  const calls = ['filter', 'load', 'loadSync', 'pick', 'refusal', 'version'];
+  assert.deepEqual(names, ['Refused', 'Site', 'WrittenSite', ...calls]);
 });
 
 test('a language finds its regions where that is asked for', () => {

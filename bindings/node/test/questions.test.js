@@ -1,6 +1,6 @@
 import assert from 'node:assert/strict';
 import test from 'node:test';
-import { Site, WrittenSite, pick } from '../node.mjs';
+import { Site, WrittenSite, pick } from 'silkwaram';
 import { GREETINGS } from './documents.js';
 
 const MEBIBYTE = 2 ** 20;

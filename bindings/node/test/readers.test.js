@@ -2,7 +2,7 @@
 
 import assert from 'node:assert/strict';
 import test from 'node:test';
-import { Site, WrittenSite } from '../node.mjs';
+import { Site, WrittenSite } from 'silkwaram';
 import { CLOSED, GREETINGS, siteDocument, throwEach, wrongType } from './documents.js';
 
 const WAYS = { 'an open site': (it) => Site.open(it), 'a written site': (it) => new WrittenSite(it) };

@@ -1,10 +1,7 @@
 import assert from 'node:assert/strict';
 import test from 'node:test';
-import { createRequire } from 'node:module';
-import { Site } from '../node.mjs';
+import { Site } from 'silkwaram';
 import { CLOSED, GREETINGS, siteDocument, throwEach, wrongType } from './documents.js';
-
-const library = createRequire(import.meta.url)('../build/silkwaram.node');
 
 function opened(labels) {
   return Site.open(siteDocument(labels));
@@ -104,25 +101,8 @@ test('another object is no site, in the package and in its compiled part', () =>
     throwEach(TypeError, [
       () => Site.prototype.text.call(other, 'greeting', 'en'),
       () => Site.prototype.close.call(other),
-      () => library.sw_site_lookup(other, 0, 'greeting', 'en', ''),
-      () => library.sw_site_open(GREETINGS, other),
-      () => library.sw_site_share(library.make(), other),
-      () => library.close(other),
     ]);
   }
-});
-
-test('the compiled part takes as many sites and texts as a call has, and no others', () => {
-  const site = library.make();
-  throwEach(TypeError, [
-    () => library.close(),
-    () => library.sw_site_lookup(site, 0, 'm', 'en'),
-    () => library.sw_pick(0, 'm', 'en', '', ''),
-    () => library.sw_site_share(site, site, site),
-    () => library.sw_site_put(site, 2n ** 64n, 'm', 'en', 'a'),
-    () => library.sw_site_put(site, 1n, 'm', 'en', 'a', 'b', 'c'),
-    () => library.sw_pick(0, null, '', ''),
-  ]);
 });
 
 test('a site is made, edited and exchanged', () => {

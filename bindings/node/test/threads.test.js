@@ -1,8 +1,10 @@
 import assert from 'node:assert/strict';
 import { once } from 'node:events';
+import { createRequire } from 'node:module';
 import test from 'node:test';
+import { pathToFileURL } from 'node:url';
 import { Worker } from 'node:worker_threads';
-import { pick } from '../node.mjs';
+import { pick } from 'silkwaram';
 import { GREETINGS } from './documents.js';
 
 const THREADS = 8;
@@ -44,7 +46,7 @@ async function descend({ document, path }) {
 }
 
 function start(task, given, options) {
-  const data = { ...given, path: new URL('../node.mjs', import.meta.url).href };
+  const data = { ...given, path: pathToFileURL(createRequire(import.meta.url).resolve('silkwaram')).href };
   const code = `(${task})(require('node:worker_threads').workerData)`;
   return new Worker(code, { eval: true, workerData: data, ...options });
 }

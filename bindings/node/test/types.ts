@@ -1,5 +1,5 @@
-// What addon.t and bindings/browser/tests/npm-types.t have the TypeScript compiler read: uses of the addon
-// and of the package in Node that are right, and after each `@ts-expect-error` one that is wrong.
+// What bindings/browser/tests/npm-types.t has the TypeScript compiler read: uses of the package in Node
+// that are right, and after each `@ts-expect-error` one that is wrong.
 import { Asked, Change, Choice, Label, LanguageMaps, Picked, Refused, Site, Status, WrittenSite } from 'silkwaram';
 import { filter, pick, refusal, version } from 'silkwaram';
 import { languages } from 'silkwaram/express';

@@ -1,10 +1,8 @@
 import assert from 'node:assert/strict';
 import test from 'node:test';
-import { createRequire } from 'node:module';
-import { Refused, Site, WrittenSite } from '../node.mjs';
+import { Refused, Site, WrittenSite } from 'silkwaram';
 import { GREETINGS, siteDocument, throwEach } from './documents.js';
 
-const library = createRequire(import.meta.url)('../build/silkwaram.node');
 const BYTES = new TextEncoder().encode(GREETINGS);
 const NO_SITE = { name: 'Refused', message: /^refused (18|19|20): / };
 
@@ -49,34 +47,12 @@ test('values of other types are TypeErrors that name the argument', () => {
   assert.throws(() => WrittenSite(BYTES), TypeError);
 });
 
-test('bytes that are taken away while a site is asked are refused', () => {
-  const bytes = copied();
-  const site = new WrittenSite(bytes);
-  assert.equal(site.text('greeting', 'fr'), 'Bonjour');
-  structuredClone(bytes, { transfer: [bytes.buffer] });
-  throwEach(NO_SITE, ['text', 'lookup', 'filter'].map((call) => () => site[call]('greeting', 'fr')));
-});
-
-test('a buffer that shrinks is refused', { skip: !ArrayBuffer.prototype.resize && 'no resize' }, () => {
-  const buffer = new ArrayBuffer(BYTES.length, { maxByteLength: BYTES.length });
-  const bytes = new Uint8Array(buffer);
-  bytes.set(BYTES);
-  const site = new WrittenSite(bytes);
-  assert.equal(site.text('greeting', 'fr'), 'Bonjour');
-  for (const length of [BYTES.length - 2, 10, 0]) {
-    buffer.resize(length);
-    assert.throws(() => site.text('greeting', 'fr'), NO_SITE);
-  }
-});
-
-test('bytes are read where they lie, but copied where other threads can change them', () => {
-  const at = Buffer.from(BYTES).indexOf('Hello');
-  const here = copied();
-  const there = shared();
-  const [ofHere, ofThere] = [here, there].map((it) => new WrittenSite(it));
-  for (const it of [here, there]) it[at] = 'J'.charCodeAt(0);
-  assert.equal(ofHere.text('greeting', 'en'), 'Jello');
-  assert.equal(ofThere.text('greeting', 'en'), 'Hello');
+test('what is done with the bytes later changes nothing', () => {
+  const [taken, changed, ofOthers] = [copied(), copied(), shared()];
+  const sites = [taken, changed, ofOthers].map((it) => new WrittenSite(it));
+  structuredClone(taken, { transfer: [taken.buffer] });
+  for (const it of [changed, ofOthers]) it.fill(0);
+  for (const it of sites) assert.equal(it.text('greeting', 'fr'), 'Bonjour');
 });
 
 // How long it takes to do this a hundred times, in milliseconds: the shortest of some times, as a machine
@@ -135,13 +111,5 @@ test('another object is no written site, in the package and in its compiled part
   }
   throwEach(TypeError, [
     () => Site.open(GREETINGS).merge(site),
-    () => library.sw_text_lookup({}, 0, 'greeting', 'en', ''),
-    () => library.sw_text_lookup(library.make(), 0, 'greeting', 'en', ''),
-    () => library.sw_text_lookup(BYTES, 0, 'greeting', 'en'),
-    () => library.sw_text_filter(BYTES, 0, 'greeting', 'en', ''),
-    () => library.sw_text_text(BYTES, 0, 'm', 'en', '', 0n, ''),
   ]);
-  // (the compiled part copies what other threads can change, by itself)
-  assert.equal(library.sw_text_text(shared(), 0, 'greeting', 'fr', '', 0n), 'Bonjour');
-  assert.equal(library.sw_text_text(GREETINGS, 0, 'greeting', 'fr', '', 0n), 'Bonjour');
 });
