@@ -31,7 +31,8 @@ needs:
 try:
 	@RT='$(RT)' tools/try $(WORDS)
 
-#: make try-session   README's session from the sources, in some two minutes; nothing is proved
+#: make try-session   the session of examples/session from the sources, in some two minutes; nothing
+#:                    is proved
 try-session:
 	@RT='$(RT)' tools/try-session
 
@@ -43,6 +44,7 @@ all: build/lexicat
 # Each crate is proved, and only then built. What was proved before is not proved again.
 build/lexicat: $(SOURCES)
 	RT='$(RT)' tools/build$(if $(HINTS), --hints '$(HINTS)')
+	@tools/programs build ../bindings/python/src lib
 
 #: make demo          builds the command, and shows an answer, a story of three newsrooms, and that
 #:                    answer again
@@ -110,14 +112,15 @@ SHARE = $(DESTDIR)$(PREFIX)/share
 LIBDIR ?= $(PREFIX)/lib
 LIB = $(DESTDIR)$(LIBDIR)
 INCLUDE = $(DESTDIR)$(PREFIX)/include
-# Scripts around the command: two edit the file of a site in place, one makes PO files of it, one
-# converts files of other formats, one exchanges a site with a server, one checks its labels; they are
-# installed with it.
-COMPANIONS = lexicat-file lexicat-edit lexicat-po lexicat-convert lexicat-exchange lexicat-check
-# (the modules of lexicat-convert, which looks for them beside itself or here)
-MODULES = $(SHARE)/silkwaram/lexicat_convert
+# Programs of the Python package over the command, which are installed with it: two edit the file of a
+# site in place, one makes PO files of it, one converts files of other formats, one exchanges a site
+# with a server, one checks its labels.
+TOOLS := $(shell tools/programs --names)
+UNITS = $(DESTDIR)$(PREFIX)/lib/systemd/user
+# (the package, which the programs look for by where they lie)
+PACKAGE = $(SHARE)/silkwaram/silkwaram
 
-#: make install       the command with its companions, manual and completions, and the library, below
+#: make install       the command with its programs, manual and completions, and the library, below
 #:                    PREFIX=/usr/local; install-command and install-library are one of them alone
 install: install-command install-library
 
@@ -131,24 +134,31 @@ install-command: build/lexicat
 	install -m 644 completions/lexicat.bash "$(SHARE)/bash-completion/completions/lexicat"
 	install -m 644 completions/_lexicat "$(SHARE)/zsh/site-functions/_lexicat"
 	install -m 644 completions/lexicat.fish "$(SHARE)/fish/vendor_completions.d/lexicat.fish"
-	for name in $(COMPANIONS); do \
-		install -m 755 companions/$$name "$(BIN)/$$name" && \
-		install -m 644 man/$$name.1 "$(SHARE)/man/man1/$$name.1" && \
-		install -m 644 completions/$$name.bash "$(SHARE)/bash-completion/completions/$$name" && \
-		install -m 644 completions/_$$name "$(SHARE)/zsh/site-functions/_$$name" && \
-		install -m 644 completions/$$name.fish "$(SHARE)/fish/vendor_completions.d/$$name.fish" || exit 1; \
+	tools/programs "$(BIN)" ../share/silkwaram '$(shell realpath -m --relative-to='$(PREFIX)/bin' '$(LIBDIR)')'
+	(cd bindings/python/src/silkwaram && find . -name '*.py' -o -name py.typed) | while read -r it; do \
+		install -D -m 644 "bindings/python/src/silkwaram/$$it" "$(PACKAGE)/$$it" || exit 1; \
 	done
-	install -d "$(MODULES)"
-	install -m 644 companions/lexicat_convert/*.py "$(MODULES)"
+	"$$(tools/programs --python)" -m compileall -q $(if $(DESTDIR),-s '$(DESTDIR)' -p /) "$(PACKAGE)"
+	chmod -R u=rwX,go=rX "$(PACKAGE)"
+	for name in $(TOOLS); do \
+		install -m 644 man/$$name.1 "$(SHARE)/man/man1/$$name.1" && \
+		install -m 644 completions/lexicat-programs.bash "$(SHARE)/bash-completion/completions/$$name" || exit 1; \
+	done
+	install -m 644 completions/lexicat-file.bash "$(SHARE)/bash-completion/completions/lexicat-file"
+	install -m 644 completions/_lexicat-file completions/_lexicat-programs "$(SHARE)/zsh/site-functions"
+	install -m 644 completions/lexicat-file.fish "$(SHARE)/fish/vendor_completions.d/lexicat-file.fish"
+	install -d "$(UNITS)"
+	install -m 644 packaging/systemd/lexicat-exchange@.timer "$(UNITS)"
+	sed 's|@BIN@|$(PREFIX)/bin|' packaging/systemd/lexicat-exchange@.service > "$(UNITS)/lexicat-exchange@.service"
 
 # (the links are made by `tools/library`, and lead to each other by their names alone)
 install-library: library
 	install -d "$(LIB)/pkgconfig" "$(INCLUDE)"
 	install -m 644 include/silkwaram.h include/silkwaram_command.h "$(INCLUDE)"
 	install -m 644 build/lib/libsilkwaram.a build/lib/libsilkwaram-command.a "$(LIB)"
-	cp -P build/lib/libsilkwaram.so* "$(LIB)"
+	cp -P build/lib/libsilkwaram*.so* "$(LIB)"
 	tools/pkg-config-file '$(PREFIX)' '$(LIBDIR)' > "$(LIB)/pkgconfig/silkwaram.pc"
-	chmod 644 "$(LIB)"/libsilkwaram.so.*.*.* "$(LIB)/pkgconfig/silkwaram.pc"
+	chmod 644 "$(LIB)"/libsilkwaram*.so.*.*.* "$(LIB)/pkgconfig/silkwaram.pc"
 
 #: make uninstall     takes away what `make install` put in place, by the same PREFIX, LIBDIR, DESTDIR
 uninstall:
@@ -156,15 +166,18 @@ uninstall:
 	rm -f "$(SHARE)/man/man1/lexicat.1" "$(SHARE)/man/man5/lexicat-formats.5"
 	rm -f "$(SHARE)/bash-completion/completions/lexicat" "$(SHARE)/zsh/site-functions/_lexicat"
 	rm -f "$(SHARE)/fish/vendor_completions.d/lexicat.fish"
-	for name in $(COMPANIONS); do \
+	for name in $(TOOLS); do \
 		rm -f "$(BIN)/$$name" "$(SHARE)/man/man1/$$name.1" \
-			"$(SHARE)/bash-completion/completions/$$name" "$(SHARE)/zsh/site-functions/_$$name" \
-			"$(SHARE)/fish/vendor_completions.d/$$name.fish"; \
+			"$(SHARE)/bash-completion/completions/$$name"; \
 	done
-	rm -rf "$(MODULES)"
+	rm -f "$(SHARE)/zsh/site-functions/_lexicat-file" "$(SHARE)/zsh/site-functions/_lexicat-programs"
+	rm -f "$(SHARE)/fish/vendor_completions.d/lexicat-file.fish"
+	rm -rf "$(PACKAGE)"
+	rm -f "$(UNITS)/lexicat-exchange@.timer" "$(UNITS)/lexicat-exchange@.service"
+	-rmdir "$(UNITS)" "$(dir $(UNITS))" 2> /dev/null
 	-rmdir "$(SHARE)/silkwaram" 2> /dev/null
 	rm -f "$(INCLUDE)/silkwaram.h" "$(INCLUDE)/silkwaram_command.h" "$(LIB)/pkgconfig/silkwaram.pc"
-	rm -f "$(LIB)/libsilkwaram.a" "$(LIB)/libsilkwaram-command.a" "$(LIB)"/libsilkwaram.so*
+	rm -f "$(LIB)/libsilkwaram.a" "$(LIB)/libsilkwaram-command.a" "$(LIB)"/libsilkwaram*.so*
 
 #: make dist          a tarball, Debian packages, a wheel for Python and a package for npm, for those
 #:                    who have no Rattle kit, in build/dist: some minutes more than the library.

@@ -5,7 +5,7 @@
 function __lexicat_file_given
     set -l words (commandline -opc)[2..-1]
     while string match -q -- '-*' $words[1]
-        test $words[1] = --wait; and set words $words[2..-1]
+        contains -- $words[1] --wait --keep; and set words $words[2..-1]
         set words $words[2..-1]
     end
     string join \n -- $words
@@ -31,6 +31,8 @@ end
 complete -c lexicat-file -f
 complete -c lexicat-file -n '__lexicat_file_has -eq 0' -F
 complete -c lexicat-file -n '__lexicat_file_has -eq 0' -x -l wait -d 'Wait no longer for the lock'
+complete -c lexicat-file -n '__lexicat_file_has -eq 0' -x -l keep -d 'Keep the lines of the log so long'
+complete -c lexicat-file -n '__lexicat_file_has -eq 0' -l version -d 'Print the version'
 complete -c lexicat-file -n '__lexicat_file_has -eq 0' -s h -l help -d 'Print help'
 complete -c lexicat-file -n '__lexicat_file_has -eq 1' -a new -d 'Make the file of a new site'
 complete -c lexicat-file -n '__lexicat_file_has -eq 1' -a put -d 'Put a label into the site'
@@ -52,11 +54,19 @@ complete -c lexicat-file -n '__lexicat_file_has -eq 1' -a sync -d 'Merge the sit
 complete -c lexicat-file -n '__lexicat_file_has -eq 1' -a merge -d 'Join the sites of other files into the site'
 complete -c lexicat-file -n '__lexicat_file_has -eq 1' -a confirm -d 'Give a new time to labels that are still right'
 complete -c lexicat-file -n '__lexicat_file_has -eq 1' -a undo -d 'Take back what was edited since a former state'
-complete -c lexicat-file -n '__lexicat_file_has -ge 2; and __lexicat_file_runs import update take sync merge undo delta changes' -F
-complete -c lexicat-file -n '__lexicat_file_has -ge 2; and not __lexicat_file_runs merge confirm undo' -a '(__lexicat_file_arguments)'
-complete -c lexicat-file -n '__lexicat_file_runs delete' -l force -d 'Delete what is not there, too'
-complete -c lexicat-file -n '__lexicat_file_runs take sync merge' -l no-limit -d 'Accept every time'
-complete -c lexicat-file -n '__lexicat_file_runs merge' -x -l not-after -d 'Refuse a time after this'
+complete -c lexicat-file -n '__lexicat_file_has -eq 1' -a log -d 'What was edited, when, and by which site'
+complete -c lexicat-file -n '__lexicat_file_has -eq 1' -a conflicts -d 'Texts of this site that another one overrode'
+complete -c lexicat-file -n '__lexicat_file_has -eq 1' -a doctor -d 'Whether all is well with the site'
+complete -c lexicat-file -n '__lexicat_file_has -eq 1' -a restore -d 'Make the site of a backup and of the sites of others'
+complete -c lexicat-file -n '__lexicat_file_has -ge 2; and __lexicat_file_runs import update take sync merge undo delta changes restore' -F
+complete -c lexicat-file -n '__lexicat_file_has -ge 2; and not __lexicat_file_runs merge confirm undo restore log conflicts doctor' -a '(__lexicat_file_arguments)'
+complete -c lexicat-file -n '__lexicat_file_runs put delete' -l force -d 'Delete what is not there, too, and take a time ahead'
+complete -c lexicat-file -n '__lexicat_file_runs take sync merge restore' -l no-limit -d 'Accept every time'
+complete -c lexicat-file -n '__lexicat_file_runs take sync merge' -l no-check-own -d 'Take in edits of its own name'
+complete -c lexicat-file -n '__lexicat_file_runs merge restore' -x -l not-after -d 'Refuse a time after this'
 complete -c lexicat-file -n '__lexicat_file_runs confirm' -x -l lang -d 'The language of the labels'
 complete -c lexicat-file -n '__lexicat_file_runs confirm' -x -l source -d 'The language that was translated from'
-complete -c lexicat-file -n '__lexicat_file_runs confirm undo' -x -l now -d 'The time of the edit'
+complete -c lexicat-file -n '__lexicat_file_runs confirm undo conflicts' -x -l now -d 'The time of the edit'
+complete -c lexicat-file -n '__lexicat_file_runs conflicts' -x -l since -d 'Those of all exchanges since a day'
+complete -c lexicat-file -n '__lexicat_file_runs conflicts' -x -l mine -d 'Put one back'
+complete -c lexicat-file -n '__lexicat_file_runs restore' -x -l site -d 'A name that no site has had'

@@ -29,13 +29,14 @@ _lexicat() {
         pick) options='--scheme --lenient --widen --default --all --help -h' ;;
         new) options='--site --help -h' ;;
         put | delete) options='--now --id --lang --help -h' ;;
-        status | export | changes | summary | delta | replay) options='--help -h' ;;
+        status | export | changes | delta | replay) options='--help -h' ;;
         import | update) options='--now --help -h' ;;
         missing) options='--lang --help -h' ;;
         outdated) options='--lang --source --help -h' ;;
         filter) options='--id --scheme --lenient --help -h' ;;
         lookup) options='--id --scheme --lenient --widen --default --help -h' ;;
         bundle) options='--scheme --lenient --widen --default --help -h' ;;
+        summary) options='--labels --help -h' ;;
         take | sync | merge) options='--not-after --check-own --help -h' ;;
         explain) options='1 2 3 4 5 6 7 8 9 10 11 12 13 14 15 16 17 18 19 20 21 22 23 24 25 26 27 28 29 30 --help -h' ;;
         help) options=$commands ;;

@@ -37,6 +37,7 @@ complete -c lexicat -n '__fish_seen_subcommand_from put delete import update' -x
 complete -c lexicat -n '__fish_seen_subcommand_from put delete filter lookup' -x -l id -d 'The message: 1 to 128 bytes, with no control character and no "@" first'
 complete -c lexicat -n '__fish_seen_subcommand_from put delete missing outdated' -x -l lang -d 'A language tag, or @none'
 complete -c lexicat -n '__fish_seen_subcommand_from outdated' -x -l source -d 'The language that was translated from, or @none'
+complete -c lexicat -n '__fish_seen_subcommand_from summary' -l labels -d 'Print a digest of each label too, so that the delta has each label that differs'
 complete -c lexicat -n '__fish_seen_subcommand_from take sync merge' -x -l not-after -d 'Refuse to join a document that has a time after this, a whole number'
 complete -c lexicat -n '__fish_seen_subcommand_from take sync merge' -l check-own -d 'Refuse to join a document that has an edit of the site which the site lacks: it was put back to an older copy, or another site has its name'
 complete -c lexicat -n '__fish_seen_subcommand_from explain' -a '1 2 3 4 5 6 7 8 9 10 11 12 13 14 15 16 17 18 19 20 21 22 23 24 25 26 27 28 29 30'

@@ -1,4 +1,4 @@
-"""Reads what the help of the command and of its companions says of commands and arguments."""
+"""Reads what the help of the command and of its programs on files says of commands and arguments."""
 import os
 import re
 import subprocess

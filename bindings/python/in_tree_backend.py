@@ -1,35 +1,35 @@
 """Builds the package with Python's standard library alone, so that an installation fetches nothing.
 
-These are the calls of PEP 517 that pip makes. The wheel has the modules as they are, with the page
-of the editor. With the setting `library`, the path of libsilkwaram.so, it has the library too, and
-bears the tag of the machines that this runs on; that wants `objdump` of binutils. With the setting
-`browser`, the folder that `make browser` builds, it has the module that the editor's page runs:
+This is the call of PEP 517 that pip makes; there is no source package. The wheel has the modules as
+they are, with the page of the editor. With the setting `library`, the path of libsilkwaram.so, it has
+the library too, and bears the tag of the machines that this runs on; that wants `objdump` of binutils.
+With the setting `command`, the path of libsilkwaram-command.so, the programs run without another
+library. With the setting `browser`, the folder that `make browser` builds, it has the module that the
+editor's page runs. With the setting `licences`, a file that `tools/third-party` prints, it has the
+licences of what is linked into the libraries:
 
     pip wheel --config-settings library=$PWD/build/lib/libsilkwaram.so \\
+        --config-settings command=$PWD/build/lib/libsilkwaram-command.so \\
         --config-settings browser=$PWD/build/browser ./bindings/python
 """
 import base64
-import gzip
 import hashlib
-import io
 import os
 import re
 import subprocess
-import tarfile
 import zipfile
 
 HERE = os.path.dirname(os.path.abspath(__file__))
 NAME = "silkwaram"
 LICENCES = ["LICENSE-APACHE", "LICENSE-MIT"]
-SONAME = "libsilkwaram.so.0"
+# The libraries by the settings that name them.
+SONAMES = {"library": "libsilkwaram.so.0", "command": "libsilkwaram-command.so.0"}
 GLIBC = (2, 17)
 # What the editor's page is made of, and what of the module it runs.
 PAGE = (".html", ".css", ".js", ".mjs", ".svg")
 MODULE = ("silkwaram.mjs", "silkwaram.wasm")
-# The program by which the editor's server makes PO files: in a source package beside this file.
-PO_PROGRAM, PO_PLACE = "companions/lexicat-po", "editor/lexicat_po.py"
 # The first of January 1980, before which no date of a file in a wheel can be.
-EPOCH, ZIP_EPOCH = 315532800, (1980, 1, 1, 0, 0, 0)
+EPOCH = (1980, 1, 1, 0, 0, 0)
 
 
 def read(path):
@@ -43,18 +43,14 @@ def version():
     ].decode()
 
 
-def licences():
-    """The licence files: in a source package beside this file, in the repository at its top."""
-    found = {}
-    for name in LICENCES:
-        for folder in ("", "../../"):
-            if os.path.exists(os.path.join(HERE, folder + name)):
-                found[name] = read(folder + name)
-                break
-    return found
+def licences(settings):
+    """The licence files at the top of the repository, if this is there, and that of what is linked."""
+    paths = {name: os.path.join(HERE, "../..", name) for name in LICENCES}
+    paths["THIRD-PARTY"] = settings.get("licences", "")
+    return {name: read(path) for name, path in paths.items() if os.path.isfile(path)}
 
 
-def metadata():
+def metadata(licence_names):
     """The fields as pyproject.toml has them, and the page."""
     project = read("pyproject.toml").decode()
     value = lambda name: re.search(rf'^{name} = "(.*?)"', project, re.M)[1]
@@ -67,7 +63,7 @@ def metadata():
         f"Summary: {value('description')}",
         f"Maintainer: {maintainer}",
         f"License-Expression: {value('license')}",
-        *[f"License-File: {it}" for it in licences()],
+        *[f"License-File: {it}" for it in licence_names],
         *[f"Classifier: {it}" for it in re.findall(r'"(.*?)"', classifiers)],
         f"Requires-Python: {value('requires-python')}",
         "Description-Content-Type: text/markdown",
@@ -85,15 +81,13 @@ def modules():
     )
 
 
-def po_program():
-    """The program lexicat-po, where the sources have it."""
-    for folder in ("", "../../"):
-        if os.path.exists(os.path.join(HERE, folder + PO_PROGRAM)):
-            return {PO_PROGRAM: read(folder + PO_PROGRAM)}
-    return {}
+def entry_points():
+    """The programs that an installation makes, as pyproject.toml has them."""
+    lines = re.findall(r'^(lexicat[a-z-]*) = "(.*)"$', read("pyproject.toml").decode(), re.M)
+    return ("[console_scripts]\n" + "".join(f"{name} = {call}\n" for name, call in lines)).encode()
 
 
-def library_tag(path):
+def library_tag(path, soname):
     """The tag of the machines that a library runs on; a ValueError where it wants more of them."""
     said = subprocess.run(
         ["objdump", "-p", path],
@@ -102,8 +96,8 @@ def library_tag(path):
         universal_newlines=True,
         env={**os.environ, "LC_ALL": "C"},
     ).stdout
-    if "file format elf64-x86-64" not in said or f"SONAME               {SONAME}\n" not in said:
-        raise ValueError(f"{path} is not {SONAME} for x86-64")
+    if "file format elf64-x86-64" not in said or f"SONAME               {soname}\n" not in said:
+        raise ValueError(f"{path} is not {soname} for x86-64")
     others = set(re.findall(r"NEEDED +(\S+)", said)) - {"libc.so.6"}
     if others:
         raise ValueError(f"{path} wants {', '.join(sorted(others))}, which not every machine has")
@@ -121,53 +115,31 @@ def record_line(path, content):
 
 
 def build_wheel(wheel_directory, config_settings=None, metadata_directory=None):
-    info = f"{NAME}-{version()}.dist-info"
+    settings, info = config_settings or {}, f"{NAME}-{version()}.dist-info"
     files = {f"{NAME}/{it}": read(f"src/{NAME}/{it}") for it in modules()}
-    files.update({f"{NAME}/{PO_PLACE}": content for content in po_program().values()})
-    browser = (config_settings or {}).get("browser")
+    browser = settings.get("browser")
     if browser:
         files.update({f"{NAME}/editor/page/{it}": read(os.path.join(browser, it)) for it in MODULE})
-    library = (config_settings or {}).get("library")
     machines = "any"
-    if library:
-        machines = library_tag(library)
-        files[f"{NAME}/{SONAME}"] = read(library)
-    files.update({f"{info}/licenses/{it}": content for it, content in licences().items()})
-    files[f"{info}/METADATA"] = metadata()
+    for setting, soname in SONAMES.items():
+        library = settings.get(setting)
+        if library:
+            machines = library_tag(library, soname)
+            files[f"{NAME}/{soname}"] = read(library)
+    files[f"{info}/entry_points.txt"] = entry_points()
+    found = licences(settings)
+    files.update({f"{info}/licenses/{it}": content for it, content in found.items()})
+    files[f"{info}/METADATA"] = metadata(found)
     files[f"{info}/WHEEL"] = (
         "Wheel-Version: 1.0\nGenerator: silkwaram\n"
-        f"Root-Is-Purelib: {'false' if library else 'true'}\nTag: py3-none-{machines}\n"
+        f"Root-Is-Purelib: {'true' if machines == 'any' else 'false'}\nTag: py3-none-{machines}\n"
     ).encode()
     record = "".join(record_line(path, content) for path, content in files.items())
     files[f"{info}/RECORD"] = f"{record}{info}/RECORD,,\n".encode()
     made = f"{NAME}-{version()}-py3-none-{machines}.whl"
     with zipfile.ZipFile(os.path.join(wheel_directory, made), "w", zipfile.ZIP_DEFLATED) as wheel:
         for path, content in files.items():
-            entry = zipfile.ZipInfo(path, ZIP_EPOCH)
+            entry = zipfile.ZipInfo(path, EPOCH)
             entry.compress_type, entry.external_attr = zipfile.ZIP_DEFLATED, 0o644 << 16
             wheel.writestr(entry, content)
-    return made
-
-
-def build_sdist(sdist_directory, config_settings=None):
-    base = f"{NAME}-{version()}"
-    paths = [
-        "pyproject.toml",
-        "in_tree_backend.py",
-        "README.md",
-        *[f"src/{NAME}/{it}" for it in modules()],
-    ]
-    files = {it: read(it) for it in paths}
-    files.update({it: licences()[it] for it in LICENCES})
-    files.update(po_program())
-    files["PKG-INFO"] = metadata()
-    made = f"{base}.tar.gz"
-    # (with no name and a date of its own inside, so that the same sources give the same bytes)
-    with open(os.path.join(sdist_directory, made), "wb") as file, gzip.GzipFile(
-        "", "wb", 9, file, EPOCH
-    ) as packed, tarfile.open(fileobj=packed, mode="w", format=tarfile.PAX_FORMAT) as archive:
-        for path, content in files.items():
-            entry = tarfile.TarInfo(f"{base}/{path}")
-            entry.size, entry.mtime = len(content), EPOCH
-            archive.addfile(entry, io.BytesIO(content))
     return made

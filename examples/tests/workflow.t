@@ -40,7 +40,7 @@ good() {
 faulty() {
     rm -rf "$room/installed"
     repository "$1"
-    (cd "$room/$1" && PATH=$companions:$PATH && eval "$3") || return
+    (cd "$room/$1" && PATH=$tools:$PATH && eval "$3") || return
     ends_at "$2" "$1" alone || return
     grep -q "^${4:-}" "$room/step" && return
     echo "no line begins with $4: $(tail -n 20 "$room/step")"

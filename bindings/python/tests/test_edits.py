@@ -255,8 +255,32 @@ class Exchanges(Case):
         self.refuses(29, self.tokyo.take, delta, not_after=100)
         self.refuses(15, self.tokyo.take, delta)
         self.assertEqual(self.paris.to_bytes(), before)
+        self.refuses(29, self.paris.merge, self.tokyo, not_after=100)
+        self.assertEqual(self.paris.to_bytes(), before)
         self.paris.take(delta, not_after=101)
         self.assertEqual(self.paris.text("m", "ja"), "x")
+
+    def test_a_site_that_was_put_back(self):
+        before = self.paris.to_bytes()
+        self.paris.put("m", "ja", "x", now=101)
+        self.tokyo.merge(self.paris, check_own=True)
+        self.paris.reload(before)
+        delta = self.tokyo.delta_for(self.paris.summary())
+        self.refuses(30, self.paris.take, delta, check_own=True)
+        self.refuses(30, self.paris.merge, self.tokyo, check_own=True)
+        self.assertEqual(self.paris.to_bytes(), before)
+        self.paris.take(delta)
+        self.assertEqual(self.paris.text("m", "ja"), "x")
+
+    def test_one_stamp_of_two_labels(self):
+        with Site.new("paris") as twin:
+            self.paris.put("n", "en", "a", now=101)
+            twin.put("n", "en", "b", now=101)
+            twin.take(self.paris.delta_for(twin.summary()))
+            delta = self.paris.delta_for(twin.summary(labels=True))
+            self.refuses(13, twin.take, delta)
+            self.refuses(13, twin.merge, self.paris)
+            self.assertEqual(twin.text("n", "en"), "b")
 
 
 class Files(FileCase):
@@ -297,6 +321,13 @@ class Files(FileCase):
             with self.assertRaises(OSError), edit(self.path) as site:
                 site.put("m", "fr", "Bonjour")
         self.is_as_it_was()
+
+    def test_a_log_that_cannot_be_written(self):
+        os.mkdir(self.path + ".changes")
+        with self.assertLogs("silkwaram", "WARNING") as logged, edit(self.path, log="me") as site:
+            site.put("m", "fr", "Bonjour")
+        self.assertIn("its edit is made, and its log lacks it", logged.output[0])
+        self.assertEqual(self.labels()["m"]["fr"], "Bonjour")
 
     def test_a_site_that_stays_the_same_is_not_written(self):
         with edit(self.path) as site:
@@ -380,8 +411,9 @@ class Files(FileCase):
         self.assertEqual(raised.exception.filename, os.path.realpath(self.path))
 
     def test_what_killed_programs_left(self):
-        kept = ["next", "next.abcde", "next.a-cdef"]
-        for end in [*kept, "next.aB3xyz", "next.abcd_123"]:
+        # (a file of somebody's own stays, whatever its end is)
+        kept = ["next", "next.backup", "next.20261130", "next.lexicat-0123abcz"]
+        for end in [*kept, "next.lexicat-0123abcd", "next.lexicat-89efffff"]:
             open(f"{self.path}.{end}", "wb").close()
         with edit(self.path):
             pass

@@ -140,15 +140,13 @@ class Checked(Files):
 
     def test_a_file_that_is_replaced(self):
         for site in self.ways():
-            before = site.share()
-            for content in self.OTHERS:
-                self.replace(content)
-                for ask in self.asks(site) * 2:
-                    self.is_other(ask)
-            self.replace(self.SPOILED)
-            for ask in self.asks(site) + self.asks(site.share()):
-                self.refuses(19, ask)
-            self.says(before, "Hello")
+            for content in (*self.OTHERS, self.SPOILED):
+                with self.assertLogs("silkwaram", "WARNING") as logged:
+                    self.replace(content)
+                    for ask in (*self.asks(site), *self.asks(site.share())):
+                        self.assertTrue(ask())
+                    self.says(site, "Hello")
+                self.assertEqual(len(logged.output), 1)
             self.replace(greeting("new"))
             self.says(site, "new")
             os.unlink(self.path)
@@ -199,14 +197,32 @@ class Replaced(Files):
             self.replace(greeting("new"))
             self.says(site, "new")
 
+    # (each is refused by the first question that is put to it)
+    NO_SITES = [b"", b"{}\n", greeting("new")[:-5], WRITTEN[:9], WRITTEN.replace(b"2}", b"3}")]
+    NO_SITES += [b'{"addressee":"paris","cells":[],"kind":"delta","version":2}\n', b"\xff" + WRITTEN]
+
     def test_a_file_that_is_no_site(self):
         for site in self.ways(greeting("old")):
-            before = site.share()
-            for content, number in (b"", 19), (b"{}\n", 20), (greeting("new")[:-5], 19):
-                self.replace(content)
-                for ask in (site.lookup, site.text, site.texts, site.filter):
-                    self.refuses(number, ask, "greeting", "en")
-            self.says(before, "old")
+            for content in self.NO_SITES:
+                with self.assertLogs("silkwaram", "WARNING") as logged:
+                    self.replace(content)
+                    for _ in range(3):
+                        self.says(site, "old")
+                        self.says(site.share(), "old")
+                said = f"{self.path} is not read anew, and the site stays: refused "
+                self.assertEqual(len(logged.output), 1)
+                self.assertIn(said, logged.output[0])
+            self.replace(greeting("new"))
+            self.says(site, "new")
+
+    def test_a_fifo_is_not_waited_for(self):
+        for site in self.ways(greeting("old")):
+            os.unlink(self.path)
+            os.mkfifo(self.path)
+            self.says(site, "old")
+            with self.assertRaisesRegex(OSError, "not a plain file"):
+                mapped(self.path)
+            os.unlink(self.path)
             self.replace(greeting("new"))
             self.says(site, "new")
 
@@ -259,14 +275,25 @@ path = pathlib.Path(sys.argv[1])
 site = silkwaram.mapped(path, copy=True)
 held, share = path.read_bytes(), site.share()
 os.truncate(path, 0)
-try:
-    site.text("greeting", "en")
-except silkwaram.Refused as fault:
-    print(fault.number, share.text("greeting", "en"))
+print(site.text("greeting", "en"), share.text("greeting", "en"))
 path.write_bytes(held.replace(b"Hello", b"Good day"))
 print(site.text("greeting", "en"))
 """)
-        self.assertEqual((ran.stdout, ran.stderr), ("19 Hello\nGood day\n", ""))
+        said = "is not read anew, and the site stays: refused 19"
+        self.assertEqual(ran.stdout, "Hello Hello\nGood day\n")
+        self.assertEqual(ran.stderr.count(said), 1)
+
+    def test_a_map_of_a_file_that_was_cut_is_not_asked(self):
+        ran = self.run_python("""
+site = silkwaram.mapped(sys.argv[1])
+os.truncate(sys.argv[1], 0)
+for _ in range(2):
+    try:
+        site.text("greeting", "en")
+    except silkwaram.Refused as fault:
+        print(fault.number)
+""")
+        self.assertEqual((ran.returncode, ran.stdout, ran.stderr), (0, "19\n19\n", ""))
 
     def test_a_map_ends_it(self):
         ran = self.run_python("""

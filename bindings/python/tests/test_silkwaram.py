@@ -491,7 +491,7 @@ class Libraries(unittest.TestCase):
             ("libc.so.6", "libc.so.6 is not Silkwaram's library"),
             ("/nowhere/libsilkwaram.so", "/nowhere/libsilkwaram.so cannot be loaded"),
         ]:
-            program = "try:\n    import silkwaram\nexcept ImportError as fault:\n    print(fault)"
+            program = "try:\n    from silkwaram import pick\nexcept ImportError as fault:\n    print(fault)"
             ran = run_python(program, SILKWARAM_LIBRARY=path)
             with self.subTest(path=path):
                 self.assertIn(message, ran.stdout)

@@ -1,13 +1,14 @@
 # shellcheck shell=bash disable=SC2034,SC2154
 # What examples/tests/workflow.t and examples/tests/workflow/image share: repositories with the
 # package and two sites, and the steps of the workflow. They take build/lexicat, or the command that
-# LEXICAT names, and package it with the companions; or what `make dist` left in build/dist.
+# LEXICAT names, and package it with the programs; or what `make dist` left in build/dist.
 . tests/lib/tap.sh
 LEXICAT=$(realpath -m "${LEXICAT:-build/lexicat}")
 export LEXICAT
 own=$PWD/examples/tests/workflow
 workflow=$PWD/examples/github/labels.yml
-companions=$PWD/companions
+tools=$room/tools
+tools/programs "$tools" "$PWD/bindings/python/src" "$PWD/build/lib"
 package=$room/silkwaram_0-1_amd64.deb
 needs "$LEXICAT" dpkg-deb flock /usr/bin/python3
 /usr/bin/python3 -c 'import yaml' 2> /dev/null ||
@@ -17,9 +18,10 @@ needs "$LEXICAT" dpkg-deb flock /usr/bin/python3
 packaged() {
     local made=(build/dist/silkwaram_*_amd64.deb)
     if [ -f "${made[0]}" ]; then cp "${made[0]}" "$package"; return; fi
-    install -D -t "$room/staged/usr/bin" "$LEXICAT" companions/lexicat-* &&
-        install -D -m 644 -t "$room/staged/usr/share/silkwaram/lexicat_convert" \
-            companions/lexicat_convert/*.py &&
+    install -D -t "$room/staged/usr/bin" "$LEXICAT" &&
+        tools/programs "$room/staged/usr/bin" ../share/silkwaram ../lib/x86_64-linux-gnu &&
+        install -d "$room/staged/usr/share/silkwaram" &&
+        cp -R bindings/python/src/silkwaram "$room/staged/usr/share/silkwaram" &&
         install -d "$room/staged/DEBIAN" &&
         sed -e 's/@VERSION@/0-1/; s/@MAINTAINER@/nobody <>/; s/@SIZE@/1/; s/@LIBC@/2.34/' \
             packaging/control > "$room/staged/DEBIAN/control" &&
@@ -32,10 +34,10 @@ repository() {
     mkdir -p "$at/.github" "$at/sites"
     cp "$package" "$at/.github"
     for site in paris lyon; do
-        "$companions/lexicat-file" "$at/sites/$site.json" new --site "$site"
+        "$tools/lexicat-file" "$at/sites/$site.json" new --site "$site"
         echo '{"hi":{"en":"Hello {name}","de":"Hallo {name}","fr":"Salut {name}","x-note":"max 12"},
             "of":{"en":"%s of %s","de":"%2$s: %1$s","fr":"%s de %s"}}' |
-            "$companions/lexicat-file" "$at/sites/$site.json" import --now 5
+            "$tools/lexicat-file" "$at/sites/$site.json" import --now 5
     done
 }
 

@@ -40,7 +40,7 @@ class Stamp(NamedTuple):
 class Cell(NamedTuple):
     """What a site has of a message in a language: the stamp of the last edit, and its label.
 
-    `texts` is None where the label was deleted.
+    `texts` is None if the label was deleted.
     """
 
     stamp: Stamp
@@ -48,7 +48,8 @@ class Cell(NamedTuple):
 
 
 class Change(NamedTuple):
-    """A cell that differs between two sites; None where a site has none."""
+    """A cell that differs between two sites: as the one has it, and the other; None if it has
+    none."""
 
     id: str
     language: str
@@ -90,10 +91,15 @@ def _cell(value: Optional[List[Any]]) -> Optional[Cell]:
     return Cell(Stamp(time, site, count), texts)
 
 
+def change(row: List[Any]) -> Change:
+    """The change of a row of `changes`; a ValueError or a TypeError if it is none."""
+    id, language, before, after = row
+    return Change(id, language, _cell(before), _cell(after))
+
+
 def changes(lines: str) -> List[Change]:
-    """The changes of the lines of `changes`."""
-    rows = [json.loads(line) for line in lines.split("\n")[1:-1]]
-    return [Change(name, tag, _cell(before), _cell(after)) for name, tag, before, after in rows]
+    """The changes of the lines of `changes`, of which the first one counts the others."""
+    return [change(json.loads(line)) for line in lines.split("\n")[1:-1]]
 
 
 def status(line: str) -> Status:

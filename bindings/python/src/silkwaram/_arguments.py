@@ -43,7 +43,7 @@ def words(**texts: Any) -> List[Any]:
 
 
 def given_or(text: Optional[Text], without: str) -> Text:
-    """The text, or another one where there is none."""
+    """The text, or another one if there is none."""
     return without if text is None else text
 
 
@@ -80,7 +80,7 @@ def place(value: int) -> int:
 
 
 def moment(now: Optional[int]) -> int:
-    """The time of an edit: that of the clock, in milliseconds, where none is given."""
+    """The time of an edit: that of the clock, in milliseconds, if none is given."""
     if now is None:
         return time.time_ns() // 1_000_000
     counted = _counted("now", now)
@@ -90,7 +90,7 @@ def moment(now: Optional[int]) -> int:
 
 
 def limit(not_after: Optional[int]) -> int:
-    """The limit on times as the call takes it, where 0 is none."""
+    """The limit on times as the call takes it; 0 is none."""
     if not_after is None:
         return 0
     counted = _counted("not_after", not_after)

@@ -1,28 +1,23 @@
 """The file of a site, edited in place."""
 import contextlib
 import errno
-import fcntl
 import os
-import re
 import stat
-import tempfile
 import threading
-import time
-from typing import Iterator, Optional, Set, Tuple, Union
+from typing import TYPE_CHECKING, Iterator, Optional, Set, Tuple
 
 from ._arguments import Text
+from ._in_place import fault, locked, remove_leftovers, replace
 from ._site import Site
+from ._site_file import Path
 
-Path = Union[str, "os.PathLike[str]"]
-SECONDS_BETWEEN_TRIES = 0.02
+if TYPE_CHECKING:
+    from .tools._log import Log
+
 COMMAND_LIMIT = 67108864  # the bytes that a command reads
 
 # The files that are being edited, each with its process and thread.
 _edited: Set[Tuple[str, int, int]] = set()
-
-
-def _fault(number: int, path: str, what: str = "") -> OSError:
-    return OSError(number, what or os.strerror(number), path)
 
 
 def _is_there(path: str) -> bool:
@@ -32,18 +27,18 @@ def _is_there(path: str) -> bool:
     except FileNotFoundError:
         return False
     if stat.S_ISDIR(state.st_mode):
-        raise _fault(errno.EISDIR, path)
+        raise fault(errno.EISDIR, path)
     if not stat.S_ISREG(state.st_mode):
-        raise _fault(errno.EINVAL, path, "not a plain file")
+        raise fault(errno.EINVAL, path, "not a plain file")
     if state.st_nlink > 1:
         # The other name would keep the former site, whose edits use the stamps of this one again.
-        raise _fault(errno.EMLINK, path, "has other names (hard links), so it is not edited")
+        raise fault(errno.EMLINK, path, "has other names (hard links), so it is not edited")
     return True
 
 
 @contextlib.contextmanager
 def _edited_once(path: str) -> Iterator[None]:
-    """Raises where this thread edits the file already, which would wait for itself."""
+    """Raises a RuntimeError if this thread edits the file already: it would wait for itself."""
     edit_here = (path, os.getpid(), threading.get_ident())
     if edit_here in _edited:
         raise RuntimeError(f"edit of {path} inside itself")
@@ -54,111 +49,6 @@ def _edited_once(path: str) -> Iterator[None]:
         _edited.discard(edit_here)
 
 
-def _take_mode(file: int, path: str) -> None:
-    """Gives an open file the mode and, as far as it is allowed, the owner and group of another."""
-    state = os.stat(path)
-    for owner in (state.st_uid, -1):
-        with contextlib.suppress(PermissionError):
-            os.fchown(file, owner, state.st_gid)
-            break
-    os.fchmod(file, stat.S_IMODE(state.st_mode))
-
-
-def _open_lock(path: str) -> int:
-    """Opens the lock of a file, which whoever may write the file may open."""
-    name = path + ".lock"
-    # (a FIFO is not waited for)
-    flags = os.O_CLOEXEC | os.O_NOFOLLOW | os.O_NONBLOCK
-    try:
-        lock = os.open(name, os.O_RDWR | os.O_CREAT | flags, 0o666)
-    except PermissionError:
-        # (one that somebody else made may be for readers alone, which is enough)
-        lock = os.open(name, os.O_RDONLY | flags)
-    except FileNotFoundError:
-        raise _fault(errno.ENOENT, path) from None
-    if not stat.S_ISREG(os.fstat(lock).st_mode):
-        os.close(lock)
-        raise _fault(errno.EINVAL, name, "the lock is not a plain file")
-    # (a lock of somebody else keeps its mode, and a site may be gone by now)
-    with contextlib.suppress(PermissionError, FileNotFoundError):
-        _take_mode(lock, path)
-    return lock
-
-
-@contextlib.contextmanager
-def _locked(path: str, wait: Optional[float]) -> Iterator[None]:
-    """Holds the lock of a file, which is that of `lexicat-file` too."""
-    lock = _open_lock(path)
-    try:
-        if wait is None:
-            fcntl.flock(lock, fcntl.LOCK_EX)
-        else:
-            end = time.monotonic() + wait
-            while not _is_taken(lock):
-                # (so NaN is no wait)
-                if not time.monotonic() < end:
-                    raise TimeoutError(f"{path} is in use by another after {wait} seconds")
-                time.sleep(SECONDS_BETWEEN_TRIES)
-        yield
-    finally:
-        os.close(lock)
-
-
-def _is_taken(lock: int) -> bool:
-    try:
-        fcntl.flock(lock, fcntl.LOCK_EX | fcntl.LOCK_NB)
-    except BlockingIOError:
-        return False
-    return True
-
-
-def _remove_leftovers(path: str) -> None:
-    """Removes the new files of programs that were killed: only who holds the lock makes any."""
-    folder, name = os.path.split(path)
-    of_killed = re.compile(re.escape(name) + r"\.next\.\w{6}(\w\w)?", re.ASCII)
-    # (what cannot be removed does no harm)
-    with contextlib.suppress(OSError):
-        for it in filter(of_killed.fullmatch, os.listdir(folder)):
-            os.unlink(os.path.join(folder, it))
-
-
-def _sync_folder(path: str) -> None:
-    folder = os.open(os.path.dirname(path) or ".", os.O_RDONLY)
-    try:
-        os.fsync(folder)
-    finally:
-        os.close(folder)
-
-
-def _mode_of_new_files() -> int:
-    mask = os.umask(0)
-    os.umask(mask)
-    return 0o666 & ~mask
-
-
-def _replace(path: str, text: bytes) -> None:
-    """Puts a text in place of a file: written beside it, synced, and renamed."""
-    folder, name = os.path.split(path)
-    made, new = tempfile.mkstemp(prefix=name + ".next.", dir=folder)
-    try:
-        with os.fdopen(made, "wb") as file:
-            file.write(text)
-            file.flush()
-            if os.path.exists(path):
-                _take_mode(made, path)
-            else:
-                os.fchmod(made, _mode_of_new_files())
-            os.fsync(made)
-        os.replace(new, path)
-    except BaseException:
-        with contextlib.suppress(FileNotFoundError):
-            os.unlink(new)
-        raise
-    # (the edit is made; some file systems sync no folder)
-    with contextlib.suppress(OSError):
-        _sync_folder(path)
-
-
 @contextlib.contextmanager
 def edit(
     path: Path,
@@ -166,8 +56,9 @@ def edit(
     create: Optional[Text] = None,
     wait: Optional[float] = None,
     limit: Optional[int] = COMMAND_LIMIT,
+    log: Optional[str] = None,
 ) -> Iterator[Site]:
-    """Opens the file of a site for a `with` block, and writes it where the block ends well.
+    """Opens the file of a site for a `with` block, and writes it if the block ends well.
 
         with silkwaram.edit("paris.json") as site:
             site.put("greeting", "fr", "Bonjour")
@@ -178,9 +69,14 @@ def edit(
     the block raises, or the file cannot be written, it is as it was. What stays the same is not
     written.
 
-    Where there is no file, `create` makes the empty site of that name; without it that is
+    If there is no file, `create` makes the empty site of that name; without it that is
     FileNotFoundError. `wait` is how many seconds to wait for the lock, else TimeoutError; None
     waits as long as it takes. The site is closed at the end; a share of it goes on.
+
+    With `log` what changed is added to the log of the site, `PATH.changes`, which `lexicat-file
+    PATH log` and `conflicts` show; `log` is what it says of who edited. A site that is older than
+    its log was put back to an older copy, and is an OSError (ESTALE) then. If the log cannot be
+    written, the edit is made all the same, and a warning is logged.
 
     A document of over `limit` bytes, which no command reads, is an OSError, and None writes it all
     the same. So is a file with hard links: an edit by one name would leave the other as it was. An
@@ -191,23 +87,53 @@ def edit(
     file = os.path.realpath(os.fspath(path))
     if not _is_there(file):
         if create is None:
-            raise _fault(errno.ENOENT, file)
+            raise fault(errno.ENOENT, file)
         # (a name that is refused leaves no lock)
         Site.new(create).close()
-    with _edited_once(file), _locked(file, wait):
-        _remove_leftovers(file)
-        old = None
-        if create is None or _is_there(file):
-            with open(file, "rb") as read:
-                old = read.read()
-            opened = Site.open(old)
-        else:
-            opened = Site.new(create)
-        with opened as site:
+    with _edited_once(file), locked(file, wait):
+        remove_leftovers(file)
+        old, opened = _opened(file, create)
+        log_of = None if log is None or old is None else _log_of(file, opened, old)
+        with opened as site, contextlib.ExitStack() as kept:
+            former = None if log_of is None else kept.enter_context(site.share())
             yield site
             new = site.to_bytes()
+            lines = "" if former is None else former._changes_lines(site)
         if new == old:
             return
         if limit is not None and len(new) > limit:
-            raise _fault(errno.EFBIG, file, f"{len(new)} bytes are over the limit of {limit}")
-        _replace(file, new)
+            raise fault(errno.EFBIG, file, f"{len(new)} bytes are over the limit of {limit}")
+        replace(file, new)
+        if log_of is not None:
+            _add_to_log(file, log_of, str(log), lines)
+
+
+def _opened(file: str, create: Optional[Text]) -> Tuple[Optional[bytes], Site]:
+    """The document in a file, or None, and its site, or the one to make."""
+    if create is not None and not _is_there(file):
+        return None, Site.new(create)
+    with open(file, "rb") as read:
+        old = read.read()
+    return old, Site.open(old)
+
+
+def _log_of(file: str, site: Site, document: bytes) -> "Log":
+    """The log of a site. A site that is older than it is an OSError."""
+    from .tools._log import Log
+
+    log = Log(file)
+    if log.last_lacked(document, site.status().site) is not None:
+        raise fault(errno.ESTALE, file, f"is older than its log {log.path}")
+    return log
+
+
+def _add_to_log(file: str, log: "Log", by: str, lines: str) -> None:
+    """Adds lines of `changes`, of which the first one counts the others, to the log of a site."""
+    rows = [it.encode() for it in lines.split("\n")[1:-1]]
+    try:
+        log.add(by, rows, stat.S_IMODE(os.stat(file).st_mode), [])
+    except OSError as why:
+        import logging
+
+        words = "%s: its edit is made, and its log lacks it: %s"
+        logging.getLogger("silkwaram").warning(words, file, why)

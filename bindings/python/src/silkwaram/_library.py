@@ -1,14 +1,15 @@
 """The shared library, and its calls as `silkwaram.h` declares them."""
 import ctypes
-import os
 from ctypes import POINTER, c_char_p, c_int32, c_size_t, c_uint32, c_uint64, c_void_p
-from typing import Callable, NamedTuple, Tuple
+from typing import Any, NamedTuple, Tuple
+
+from ._paths import path_of
 
 NAME = "libsilkwaram.so.0"
 FIRST_ROOM = 1024
 
 FOUND, NOTHING, USAGE, REFUSED, NO_MEMORY = 0, 1, 2, 3, 5
-EXTENDED, LENIENT, WIDEN = 1, 2, 4
+EXTENDED, LENIENT, WIDEN, CHECK_OWN, LABELS = 1, 2, 4, 8, 16
 # What a refusal has, in `Told.given`.
 HAS_OFFSET, HAS_ROW, HAS_COUNT, OF_SECOND = 1, 2, 4, 8
 
@@ -30,10 +31,6 @@ class Handle(ctypes.Structure):
     """A site that the library holds, or none."""
 
     _fields_ = [("held", c_void_p)]
-
-
-# A call with all its arguments but the buffer, its length, and what is told.
-Call = Callable[["ctypes.Array[ctypes.c_char]", int, Told], int]
 
 
 class Answer(NamedTuple):
@@ -66,11 +63,11 @@ _CALLS = {
     "sw_site_delete": (c_int32, [*_SITE, c_uint64, *_TEXT * 2, *_TOLD]),
     "sw_site_import": (c_int32, [*_SITE, c_uint64, *_TEXT, *_TOLD]),
     "sw_site_update": (c_int32, [*_SITE, c_uint64, *_TEXT * 2, *_TOLD]),
-    "sw_site_take": (c_int32, [*_SITE, *_TEXT, c_uint64, *_TOLD]),
-    "sw_site_merge": (c_int32, [*_SITE, *_SITE, *_TOLD]),
+    "sw_site_take": (c_int32, [*_SITE, c_uint32, *_TEXT, c_uint64, *_TOLD]),
+    "sw_site_merge": (c_int32, [*_SITE, c_uint32, *_SITE, c_uint64, *_TOLD]),
     "sw_site_write": (c_int32, [*_SITE, *_OUT]),
     "sw_site_export": (c_int32, [*_SITE, *_OUT]),
-    "sw_site_summary": (c_int32, [*_SITE, *_OUT]),
+    "sw_site_summary": (c_int32, [*_SITE, c_uint32, *_OUT]),
     "sw_site_status": (c_int32, [*_SITE, *_OUT]),
     "sw_site_missing": (c_int32, [*_SITE, *_TEXT, *_OUT]),
     "sw_site_outdated": (c_int32, [*_SITE, *_TEXT * 2, *_OUT]),
@@ -84,14 +81,8 @@ _CALLS = {
 }
 
 
-def _path() -> str:
-    """The library that the environment names, else the one beside this file, else the loader's."""
-    beside = os.path.join(os.path.dirname(os.path.abspath(__file__)), NAME)
-    return os.environ.get("SILKWARAM_LIBRARY") or (beside if os.path.exists(beside) else NAME)
-
-
 def _loaded(path: str) -> ctypes.CDLL:
-    """The library with its calls declared; an ImportError where it is another, or not there."""
+    """The library with its calls declared; an ImportError if it is another, or not there."""
     try:
         loaded = ctypes.CDLL(path)
     except OSError as fault:
@@ -110,15 +101,16 @@ def _loaded(path: str) -> ctypes.CDLL:
     return loaded
 
 
-library = _loaded(_path())
+library = _loaded(path_of(NAME, "SILKWARAM_LIBRARY"))
 
 
-def answered(call: Call, room: int = FIRST_ROOM) -> Answer:
-    """Makes the call with room for its answer: once more where that room was too small."""
+def answered(call: Any, *given: Any, room: int = FIRST_ROOM) -> Answer:
+    """Makes a call of the library with room for its answer: once more if that room was too
+    small."""
     told = Told()
     while True:
         out = ctypes.create_string_buffer(room)
-        status = call(out, room, told)
+        status: int = call(*given, out, room, told)
         if told.len <= room:
             return Answer(status, told, ctypes.string_at(out, told.len))
         room = told.len

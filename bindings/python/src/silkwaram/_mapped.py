@@ -1,17 +1,20 @@
 """Sites that are asked where their files lie, and are not opened."""
 import ctypes
+import logging
 import mmap
 import os
 import threading
 from copy import copy as copied
-from typing import Any, Optional, Union
+from typing import Any, Optional, Tuple, Union
 
-from ._arguments import wrong_type
-from ._library import Answer, Told, answered, library
+from ._arguments import words, wrong_type
+from ._library import Answer, answered, library
 from ._questions import Calls, Questions
 from ._refusals import Refused, checked
 from ._site import Site
-from ._site_file import Path, state_of
+from ._site_file import Path, open_plain, state_of
+
+_log = logging.getLogger("silkwaram")
 
 
 class _Buffer(ctypes.Structure):
@@ -46,7 +49,7 @@ class _File:
     def __init__(self, path: Path, is_copied: bool, is_checked: bool) -> None:
         # (of a map that may not be written no other object of ctypes gives the address)
         self._buffer = _Buffer()
-        with open(path, "rb") as file:
+        with open_plain(path) as file:
             it = os.fstat(file.fileno())
             self.state = state_of(it)
             # (an empty file cannot be mapped)
@@ -62,7 +65,7 @@ class _File:
 
 
 def _fault_of(path: Path, held: Union[bytes, mmap.mmap]) -> Optional[ValueError]:
-    """Why a file is not what Silkwaram writes for a site, with its last LF or without; None where
+    """Why a file is not what Silkwaram writes for a site, with its last LF or without; None if
     it is."""
     content = held[:]
     try:
@@ -94,9 +97,11 @@ class MappedSite(Questions):
         self._is_copied, self._is_checked, self._is_closed = bool(copy), bool(check), False
         # (held while the file is opened anew; that of a forked process is its own)
         self._lock, self._process = threading.Lock(), os.getpid()
+        # (the state of a file that is not asked, since it is no site)
+        self._left: Optional[Tuple[int, ...]] = None
         self._file: Optional[_File] = self._opened(self._path)
-        # (what reads as no site is refused here)
-        self.lookup("-", None)
+        if not self._is_site(self._file) and self._file.fault is not None:
+            raise copied(self._file.fault)
 
     def share(self) -> "MappedSite":
         """Returns the site as it is now: this one does not look whether its file was replaced."""
@@ -109,23 +114,21 @@ class MappedSite(Questions):
         self._is_closed, self._file = True, None
 
     def _ask(self, call: Any, *given: Any) -> Answer:
-        file = self._current()
+        return self._ask_file(self._current(), call, *given)
+
+    @staticmethod
+    def _ask_file(file: _File, call: Any, *given: Any) -> Answer:
         if file.fault is not None:
             raise copied(file.fault)
-
-        def asked(out: "ctypes.Array[ctypes.c_char]", room: int, told: Told) -> int:
-            status: int = call(*file.text, *given, out, room, told)
-            return status
-
-        return checked(answered(asked), "a site document")
+        return checked(answered(call, *file.text, *given), "a site document")
 
     def _current(self) -> _File:
-        """The file as it is now. One that cannot be had leaves the one before."""
+        """The file as it is now. One that cannot be had, or is no site, leaves the one before."""
         file = self._file
         if file is None:
             raise ValueError("the site is closed")
         try:
-            if self._path is None or state_of(os.stat(self._path)) == file.state:
+            if self._path is None or state_of(os.stat(self._path)) in (file.state, self._left):
                 return file
             return self._opened_anew(self._path, file) or file
         except OSError:
@@ -133,6 +136,15 @@ class MappedSite(Questions):
 
     def _opened(self, path: Path) -> _File:
         return _File(path, self._is_copied, self._is_checked)
+
+    def _is_site(self, file: _File) -> bool:
+        """Whether a first question to a file is answered; if not, each question raises its
+        fault."""
+        try:
+            self._ask_file(file, self._calls.lookup, 0, *words(id="-", field="*", default=""))
+        except ValueError as fault:
+            file.fault = fault.with_traceback(None)
+        return file.fault is None
 
     def _opened_anew(self, path: Path, before: _File) -> Optional[_File]:
         """The file that was put in place of another; None while another thread opens it."""
@@ -144,13 +156,23 @@ class MappedSite(Questions):
         try:
             # (another thread may have opened it by now)
             if self._file is before:
-                self._file = self._opened(path)
+                self._take(self._opened(path), before)
             file = self._file
         finally:
             lock.release()
         if self._is_closed:
             self._file = None
         return file
+
+    def _take(self, file: _File, before: _File) -> None:
+        """Asks a new file from now on. One that is no site leaves the one before, with a warning in
+        the log, unless somebody wrote into that: of a map of it bytes may be gone."""
+        is_other = self._is_copied or file.state[:2] != before.state[:2]
+        if self._is_site(file) or not is_other:
+            self._file, self._left = file, None
+        else:
+            self._left = file.state
+            _log.warning("%s is not read anew, and the site stays: %s", self._path, file.fault)
 
 
 def mapped(path: Path, copy: bool = False, check: bool = False) -> MappedSite:
@@ -165,21 +187,24 @@ def mapped(path: Path, copy: bool = False, check: bool = False) -> MappedSite:
     `close`.
 
     Each call looks whether the file was replaced (`os.stat`: device, inode, size and times), and
-    asks the new one then; while a thread opens that, others ask the one before, and so do all where
-    there is no file any more. `share` gives the site as it is, whatever becomes of the file.
+    asks the new one then; while a thread opens that, others ask the one before. A file that is
+    gone, or that is no site, leaves the site as it was: one question is put to each new file, and
+    if that is refused a warning is logged, once for each such file. `share` gives the site as it
+    is, whatever becomes of the file.
 
     **Replace the file, and never write into it**: a new file is moved over it, as `silkwaram.edit`
-    and `lexicat-file` do. Where a file is cut while it is mapped, the system ends the process at
+    and `lexicat-file` do. If a file is cut while it is mapped, the system ends the process at
     the first page that is gone (SIGBUS). With `copy` the bytes are read, and not mapped: whoever
     writes into such a file ends no process, though what was half written may be refused.
 
     Another program may have written the file again: with its members and rows in their order,
     without blanks, and with any escapes in the strings of its rows. Of other bytes nothing is
-    promised but an answer: a label may be missing, without a refusal. What does not read as a site
-    is Refused, here or by a question. A file that cannot be read is an OSError here.
+    promised but an answer: a label may be missing, without a refusal. A file whose ends are not
+    those of a site is Refused here, and so may a question be that meets a row which is none. A file
+    that cannot be read is an OSError here.
 
     With `check` each new file is opened and written once, in the time and the memory of
-    `Site.open`. What is no site is Refused then, as by `Site.open`, and a site that is not just as
-    Silkwaram writes it is a ValueError: here, and by each question until the file is replaced.
+    `Site.open`. What is no site is Refused here, as by `Site.open`, and a site that is not just as
+    Silkwaram writes it is a ValueError; a later file of these kinds leaves the site as it was.
     """
     return MappedSite(path, copy, check)

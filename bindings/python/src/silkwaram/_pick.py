@@ -1,19 +1,10 @@
 """Questions about tags alone, without a site."""
-import ctypes
-from typing import Any, Iterable, List, Optional
+from typing import Iterable, List, Optional
 
 from ._answers import TagChoice, tag_choices
 from ._arguments import Text, flags, given_or, lines, words
-from ._library import NOTHING, Answer, Told, answered, library
+from ._library import NOTHING, answered, library
 from ._refusals import checked
-
-
-def _ask(call: Any, how: int, texts: List[Any]) -> Answer:
-    def asked(out: "ctypes.Array[ctypes.c_char]", room: int, told: Told) -> int:
-        status: int = call(how, *texts, out, room, told)
-        return status
-
-    return checked(answered(asked))
 
 
 def pick(
@@ -27,16 +18,16 @@ def pick(
 ) -> Optional[str]:
     """Returns the tag that a reader gets, as it is in `tags`, or None (RFC 4647 section 3.4).
 
-    `field` is what the Accept-Language header has; None, where there is none, counts as `*`. The
-    default is answered where nothing else is, if it is among the tags and the field does not refuse
-    it. With `extended` the field is a list of extended ranges without weights; with `lenient` its
+    `field` is what the Accept-Language header has; None, if there is none, counts as `*`. The
+    default is answered if nothing else is, it is among the tags, and the field does not refuse it.
+    With `extended` the field is a list of extended ranges without weights; with `lenient` its
     malformed elements are skipped; with `widen` a language also finds its regions, as `en` finds
     `en-US`, which RFC 4647's lookup does not.
 
     Refused: the default (1 to 4), the field (8, 9), the tags in their order (1 to 4).
     """
     texts = words(field=given_or(field, "*"), tags=lines(tags), default=given_or(default, ""))
-    answer = _ask(library.sw_pick, flags(extended, lenient, widen), texts)
+    answer = checked(answered(library.sw_pick, flags(extended, lenient, widen), *texts))
     return None if answer.status == NOTHING else answer.text.decode()
 
 
@@ -47,11 +38,13 @@ def filter_tags(
     extended: bool = False,
     lenient: bool = False,
 ) -> List[TagChoice]:
-    """Returns the tags that a reader takes, best first, as they are in `tags` (RFC 4647 section 3.3).
+    """Returns the tags that a reader takes, best first, as they are in `tags` (RFC 4647 section
+    3.3).
 
     The arguments are those of `pick`. A tag that is there twice is answered twice.
 
     Refused: the field (8, 9), the tags in their order (1 to 4).
     """
     texts = words(field=given_or(field, "*"), tags=lines(tags))
-    return tag_choices(_ask(library.sw_filter, flags(extended, lenient), texts).text.decode())
+    answer = checked(answered(library.sw_filter, flags(extended, lenient), *texts))
+    return tag_choices(answer.text.decode())

@@ -106,7 +106,7 @@ class Questions:
         # (which copy.deepcopy calls too)
         raise TypeError(
             f"a {type(self).__name__} is neither pickled nor copied deeply: share() gives another"
-            " one of its site, and where there is no shared memory its document has to be opened"
+            " one of its site, and without shared memory its document has to be opened"
             " anew"
         )
 

@@ -1,21 +1,10 @@
 """Refusals: docs/REFUSALS.md has each with its cause and what to do."""
-import ctypes
 import functools
 import re
 from typing import Any, Optional, Tuple
 
 from ._library import (
-    FOUND,
-    HAS_COUNT,
-    HAS_OFFSET,
-    HAS_ROW,
-    NO_MEMORY,
-    OF_SECOND,
-    REFUSED,
-    Answer,
-    Told,
-    answered,
-    library,
+    FOUND, HAS_COUNT, HAS_OFFSET, HAS_ROW, NO_MEMORY, OF_SECOND, REFUSED, Answer, answered, library,
 )
 
 # What a call that reads a document says of these by the kind of document that it wants.
@@ -25,13 +14,8 @@ SHAPE = 20
 
 @functools.lru_cache(maxsize=None)
 def _said(name: str, number: int) -> str:
-    """What a call of the library says of the number of a refusal; empty where it is none."""
-
-    def asked(out: "ctypes.Array[ctypes.c_char]", room: int, told: Told) -> int:
-        status: int = getattr(library, name)(number, out, room, told)
-        return status
-
-    answer = answered(asked)
+    """What a call of the library says of the number of a refusal; empty if it is none."""
+    answer = answered(getattr(library, name), number)
     return answer.text.decode() if answer.status == FOUND else ""
 
 
@@ -46,10 +30,10 @@ class Refused(ValueError):
     """An argument is refused, by `number`.
 
     `offset` is the place in the refused text, in bytes from 0, and `row` the row of a document,
-    from 0. `count` is of 11 the place of the text in its label, of 12 how many texts the label has,
-    of 13 the place of the cell in the receiving site. They are None where the refusal has none.
-    `of_second` says that it is of the second of two documents, as the new maps of `Site.update`.
-    `wanted` says what was wanted.
+    from 0. `count` is the place of a text that is too long in its label (11), how many texts a
+    label with too many has (12), or the place of a clash among the cells of the receiving site
+    (13). They are None if the refusal has none. `of_second` says that it is of the second of two
+    documents, as the new maps of `Site.update`. `wanted` says what was wanted.
     """
 
     def __init__(

@@ -1,5 +1,4 @@
 """Sites that are open: their labels, edits of them, and what they exchange."""
-import ctypes
 import json
 import threading
 from typing import Any, List, Mapping, Optional, Union
@@ -7,7 +6,7 @@ from typing import Any, List, Mapping, Optional, Union
 from . import _answers
 from ._answers import Change, LanguageMaps, Status
 from ._arguments import Text, flags, given_or, limit, moment, words, wrong_type
-from ._library import FIRST_ROOM, USAGE, Answer, Handle, Told, answered, library
+from ._library import CHECK_OWN, FIRST_ROOM, LABELS, USAGE, Answer, Handle, Told, answered, library
 from ._questions import Calls, Questions
 from ._refusals import NOT_JSON, Refused, checked
 
@@ -74,7 +73,8 @@ class Site(Questions):
     def open(cls, document: Text) -> "Site":
         """Returns the site of a document: of its text, or its bytes, or a buffer such as an mmap.
 
-        Refused: 18 to 21, 27 and 28 for the document, 1 to 4 and 10 to 12 for a field of a row.
+        Refused: what is no site document (18 to 21, 27, 28), and a field of a row (1 to 4, 10 to
+        12).
         """
         site = cls()
         site.reload(document)
@@ -92,7 +92,7 @@ class Site(Questions):
         return site
 
     def reload(self, document: Text) -> None:
-        """Reads a document in place of the site, which stays where the document is refused.
+        """Reads a document in place of the site, which stays if the document is refused.
 
         Until the document is read the old site answers, and no question waits. One reload waits for
         another. A site that was closed is open then.
@@ -170,13 +170,17 @@ class Site(Questions):
         return self._maps(library.sw_site_outdated, *words(lang=lang, source=source))
 
     def changes(self, after: "Site") -> List[Change]:
-        """Returns the cells in which another site differs from this one, in the order of their keys.
+        """Returns the cells in which another site differs from this one, in the order of their
+        keys.
 
         `after` may be a share that was taken before an edit, or any other site.
         """
+        return _answers.changes(self._changes_lines(after))
+
+    def _changes_lines(self, after: "Site") -> str:
+        """What the command `changes` prints."""
         with after.share() as other:
-            answer = self._ask(library.sw_site_changes, other._handle)
-        return _answers.changes(answer.text.decode())
+            return self._ask(library.sw_site_changes, other._handle).text.decode()
 
     def status(self) -> Status:
         """Returns the name of the site, how large it is, and its latest stamp."""
@@ -191,11 +195,11 @@ class Site(Questions):
     def put(self, id: Text, lang: Text, text: Text, now: Optional[int] = None) -> None:
         """Puts a label of one text, which takes the place of the label that is there.
 
-        `now` is the time of the edit, in milliseconds where all sites count so; None is the clock.
+        `now` is the time of the edit, in milliseconds if all sites count so; None is the clock.
         Labels of several texts are put by `import_maps` and `update`.
 
-        Refused: the id (10), the language (1 to 4), the text (18, 11); 14 where the site already
-        has a stamp so late that no edit comes after it.
+        Refused: the id (10), the language (1 to 4), the text (18, 11); any edit (14) if the
+        site has a stamp so late that none comes after it.
         """
         self._edit(library.sw_site_put, moment(now), *words(id=id, lang=lang, text=text))
 
@@ -211,13 +215,15 @@ class Site(Questions):
 
         A label that is there already is put too, with a new stamp; `update` puts only what differs.
 
-        Refused: 18 to 20 and 22 for the text, 1 to 4 and 10 to 12 for a label of it; 14.
+        Refused: what is no JSON text of language maps (18 to 20, 22), and a label of it (1 to 4, 10
+        to 12); any edit (14) as by `put`.
         """
         texts = words(maps=_json_text(maps))
         self._edit(library.sw_site_import, moment(now), *texts, document=LANGUAGE_MAPS)
 
     def update(self, old: Maps, new: Maps, now: Optional[int] = None) -> None:
-        """Makes the edits by which language maps as they were became what they are now, all or none.
+        """Makes the edits by which language maps as they were became what they are now, all or
+        none.
 
         A label that `new` has, and `old` has not or has otherwise, is put; one that only `old` has
         is deleted. All else stays, so what others have edited since is not overridden.
@@ -229,65 +235,74 @@ class Site(Questions):
 
     # Exchange.
 
-    def summary(self) -> bytes:
-        """Returns the summary by which another site finds what this one lacks."""
-        return self._document(library.sw_site_summary)
+    def summary(self, labels: bool = False) -> bytes:
+        """Returns the summary by which another site finds what this one lacks.
+
+        With `labels` it has a digest of each label too. The delta for it also has each cell whose
+        label differs under the same stamp, so that taking it refuses what a merge refuses (13).
+        """
+        return self._document(library.sw_site_summary, LABELS * bool(labels))
 
     def delta_for(self, summary: Text) -> bytes:
         """Returns the cells that the owner of a summary lacks, for its `take`.
 
-        Refused: 18 to 21, 27 and 28 for the summary, 1 to 4 and 10 for a field of a row.
+        Refused: what is no summary (18 to 21, 27, 28), and a field of a row (1 to 4, 10).
         """
         given = words(summary=summary)
         return self._ask(library.sw_site_delta, *given, document="a summary document").text
 
-    def take(self, delta: Text, not_after: Optional[int] = None) -> None:
+    def take(
+        self, delta: Text, not_after: Optional[int] = None, check_own: bool = False
+    ) -> None:
         """Joins the cells of a delta that was made for this site. It may come twice, or late.
 
         `not_after` is the latest time that is taken, such as the clock and a day. A time far ahead
         moves every site that takes it ahead, and the greatest there is ends edits. None is no
-        limit.
+        limit. With `check_own` an edit that this site made and lacks is refused, which shows that
+        the site was put back to an older copy.
 
-        Refused: 18 to 21, 27 and 28 for the delta, 1 to 4 and 10 to 12 for a field of a row; 29
-        where a cell is after the limit; 15 where the delta is for another site; 13 where one stamp
-        has two labels.
+        Refused: what is no delta (18 to 21, 27, 28), and a field of a row (1 to 4, 10 to 12); a
+        time after the limit (29); a delta for another site (15); an edit of this site that it lacks
+        (30); a clash, two labels of one stamp (13).
         """
-        texts = words(delta=delta)
-        self._edit(library.sw_site_take, *texts, limit(not_after), document="a delta document")
+        checks, texts = CHECK_OWN * bool(check_own), words(delta=delta)
+        given = [checks, *texts, limit(not_after)]
+        self._edit(library.sw_site_take, *given, document="a delta document")
 
-    def merge(self, other: "Site") -> None:
-        """Joins the cells of another site, which stays as it is.
+    def merge(
+        self, other: "Site", not_after: Optional[int] = None, check_own: bool = False
+    ) -> None:
+        """Joins the cells of another site, which stays as it is. The checks are those of `take`.
 
         A MemoryError may leave it partly joined, and the same call again makes the rest.
 
-        Refused: 13 where one stamp has two labels; then no cell is joined.
+        Refused, and then no cell is joined: a time after the limit (29); an edit of this site that
+        it lacks (30); a clash, two labels of one stamp (13).
         """
         if not isinstance(other, Site):
             raise TypeError(f"other must be Site, not {type(other).__name__}")
         if other is self:
             return
         with other.share() as taken:
-            self._edit(library.sw_site_merge, taken._handle)
+            checks = CHECK_OWN * bool(check_own)
+            self._edit(library.sw_site_merge, checks, taken._handle, limit(not_after))
 
     def _maps(self, call: Any, *given: Any) -> LanguageMaps:
         maps: LanguageMaps = json.loads(self._ask(call, *given).text)
         return maps
 
-    def _document(self, call: Any) -> bytes:
-        """A document of the site, with room for it to have grown, as a second call makes it anew."""
-        text = self._ask(call, room=FIRST_ROOM + self._size + self._size // 8).text
+    def _document(self, call: Any, *given: Any) -> bytes:
+        """A document of the site, with room for it to have grown, as a second call makes it
+        anew."""
+        text = self._ask(call, *given, room=FIRST_ROOM + self._size + self._size // 8).text
         self._size = max(self._size, len(text))
         return text
 
     def _ask(
         self, call: Any, *given: Any, document: str = "", room: int = FIRST_ROOM
     ) -> Answer:
-        def asked(out: "ctypes.Array[ctypes.c_char]", room: int, told: Told) -> int:
-            status: int = call(self._handle, *given, out, room, told)
-            return status
-
         with self._lock:
-            answer = answered(asked, room)
+            answer = answered(call, self._handle, *given, room=room)
         return self._checked(answer, document)
 
     def _edit(self, call: Any, *given: Any, document: str = "") -> None:

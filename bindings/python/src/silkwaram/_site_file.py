@@ -1,14 +1,16 @@
 """The site of a file that other programs replace."""
+import errno
 import logging
 import os
+import stat
 import threading
 import time
-from typing import Optional, Tuple, Union
+from typing import BinaryIO, Optional, Tuple, Union
 
 from ._refusals import Refused
 from ._site import Site
 
-# Seconds; more of them where a file, such as a large one that is broken, takes long to read each
+# Seconds; more of them if a file, such as a large one that is broken, takes long to read each
 # time, so that reading takes this part of a thread's time at most.
 LOOK_EVERY = 1
 GREATEST_LOAD = 0.1
@@ -23,6 +25,20 @@ Path = Union[str, "os.PathLike[str]"]
 def state_of(it: os.stat_result) -> Tuple[int, ...]:
     """What changes when a file is replaced, or written in place."""
     return (it.st_dev, it.st_ino, it.st_size, it.st_mtime_ns, it.st_ctime_ns)
+
+
+def open_plain(path: Path) -> BinaryIO:
+    """Opens a file to read its bytes. What is no plain file is an OSError: nobody waits for a
+    FIFO."""
+    file = os.open(path, os.O_RDONLY | os.O_CLOEXEC | os.O_NONBLOCK)
+    mode = os.fstat(file).st_mode
+    if stat.S_ISREG(mode):
+        return open(file, "rb")
+    os.close(file)
+    name = os.fspath(path)
+    if stat.S_ISDIR(mode):
+        raise IsADirectoryError(errno.EISDIR, os.strerror(errno.EISDIR), name)
+    raise OSError(errno.EINVAL, "not a plain file", name)
 
 
 class SiteFile:
@@ -83,7 +99,7 @@ class SiteFile:
             lock.release()
 
     def _read(self) -> None:
-        with open(self._path, "rb") as file:
+        with open_plain(self._path) as file:
             state = state_of(os.fstat(file.fileno()))
             if state != self._state:
                 self._site = Site.open(file.read())

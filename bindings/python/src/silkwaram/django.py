@@ -6,11 +6,11 @@
 The middleware is Django's own, with its URL prefixes (`i18n_patterns`), cookie, redirects, headers
 and default. What differs is how the header is read: by `silkwaram.pick`, so that what is malformed
 of a field is skipped, and a language of weight 0 is refused. A language finds what Django's
-fallbacks name, as `zh-CN` finds `zh-hans`, and its regions, as `pt` finds `pt-br`; where
-`SILKWARAM_WIDEN` is False it finds neither, as RFC 4647's lookup has it.
+fallbacks name, as `zh-CN` finds `zh-hans`, and its regions, as `pt` finds `pt-br`; if
+`SILKWARAM_WIDEN` is False, it finds neither, as RFC 4647's lookup has it.
 
 `label` gives views the labels of the file that `SILKWARAM_SITE` names, and the template tag of the
-app `silkwaram` gives them to templates. Where `SILKWARAM_MAPPED` is True the file is asked where it
+app `silkwaram` gives them to templates. If `SILKWARAM_MAPPED` is True, the file is asked where it
 lies (`silkwaram.mapped`), and not opened.
 """
 import contextlib
@@ -104,7 +104,7 @@ def _codes() -> Dict[str, str]:
 
 @receiver(setting_changed)  # type: ignore[misc]
 def _forget_codes(*, setting: str, **_: Any) -> None:
-    """Has the codes made anew where a test changes a setting."""
+    """Has the codes made anew if a test changes a setting."""
     if setting in ("LANGUAGES", "LANGUAGE_CODE", "SILKWARAM_WIDEN", "USE_I18N"):
         _codes.cache_clear()
         _kept_code.cache_clear()

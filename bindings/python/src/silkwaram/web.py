@@ -6,7 +6,7 @@
 The application finds in its environ or scope, under the names that this module has for them:
 
 - `LANGUAGE`: with `tags` the one that the reader gets by `pick`, with a site the language of the
-  label of `message` that the reader gets. It is None where the reader gets none, and where a site
+  label of `message` that the reader gets. It is None if the reader gets none, and if a site
   has no such label or no `message` is named;
 - `LABEL`, with a site alone: a function that returns the `Label` of a message id that the reader
   gets, or None. All labels of a request are of one state of the site, also when it is reloaded.
@@ -27,18 +27,8 @@ counts as no header. `lenient`, which is the rule here, skips what is malformed 
 of refusing the whole.
 """
 from typing import (
-    Any,
-    Awaitable,
-    Callable,
-    Dict,
-    Generic,
-    Iterable,
-    List,
-    MutableMapping,
-    NamedTuple,
-    Optional,
-    Tuple,
-    TypeVar,
+    Any, Awaitable, Callable, Dict, Generic, Iterable, List, MutableMapping, NamedTuple, Optional,
+    Tuple, TypeVar,
 )
 
 from . import Label, Refused, pick
@@ -70,76 +60,8 @@ class _Reader(NamedTuple):
     language: Optional[str]
 
 
-class _Languages:
-    """What there is for readers: tags, or a site, or the site of a file."""
-
-    def __init__(
-        self,
-        *,
-        tags: Optional[Iterable[str]],
-        site: Optional[Questions],
-        path: Optional[Path],
-        message: Optional[str],
-        default: Optional[str],
-        lenient: bool,
-        widen: bool,
-        strict: bool,
-    ) -> None:
-        if [tags, site, path].count(None) != 2:
-            raise TypeError("one of tags, site and path must be given")
-        if message is not None and tags is not None:
-            raise TypeError("message is of a site")
-        self._message, self._strict = message, strict
-        self._rules: Dict[str, Any] = {"default": default, "lenient": lenient, "widen": widen}
-        self._site = site if path is None else SiteFile(path)
-        # (what the application gives is refused here, and never in a request)
-        if self._site is not None:
-            shared = self._site.share()
-            shared.lookup("-" if message is None else message, None, **self._rules)
-        elif tags is not None:
-            self._tags = tags if isinstance(tags, (str, bytes)) else list(tags)
-            if pick(None, self._tags, default=default) is None and default is not None:
-                raise ValueError(f"the default {default!r} is not among the tags")
-
-    def reader(self, field: Optional[bytes]) -> _Reader:
-        """Returns the reader of a field; a field that is refused counts as none."""
-        try:
-            return self._reader(field)
-        except Refused:
-            return self._reader(None)
-
-    def _reader(self, field: Optional[bytes]) -> _Reader:
-        if self._site is None:
-            language = self._tag(field)
-            return _Reader({LANGUAGE: language}, language)
-        # (so that a field is refused here, and not where the application asks for a label)
-        pick(field, [], lenient=self._rules["lenient"])
-        label = self._labels(self._site.share(), field)
-        first = None if self._message is None else label(self._message)
-        language = None if first is None else first.language
-        return _Reader({LANGUAGE: language, LABEL: label}, language)
-
-    def _tag(self, field: Optional[bytes]) -> Optional[str]:
-        return self._answer(lambda it: pick(it, self._tags, **self._rules), field)
-
-    def _labels(self, site: Questions, field: Optional[bytes]) -> Callable[[str], Optional[Label]]:
-        """The labels that a reader gets of a site, which is let go with the function."""
-
-        def label(id: str) -> Optional[Label]:
-            return self._answer(lambda it: site.lookup(id, it, **self._rules), field)
-
-        return label
-
-    def _answer(
-        self, ask: Callable[[Optional[bytes]], Optional[Found]], field: Optional[bytes]
-    ) -> Optional[Found]:
-        """What is found by a field; without `strict` the default where that finds nothing."""
-        found = ask(field)
-        return ask(None) if found is None and not self._strict else found
-
-
 def _varied(values: List[str]) -> Optional[str]:
-    """The Vary of a response, or None where those that it has are enough."""
+    """The Vary of a response, or None if those that it has are enough."""
     names = [name.strip() for value in values for name in value.split(",")]
     if "*" in names or "accept-language" in (name.lower() for name in names):
         return None
@@ -178,17 +100,51 @@ class _LanguageMiddleware(Generic[App]):
         Refused: the default and the tags (1 to 4), the message (10), the file as by `Site.open`. A
         file that cannot be read is an OSError.
         """
-        self.app = app
-        self._languages = _Languages(
-            tags=tags,
-            site=site,
-            path=path,
-            message=message,
-            default=default,
-            lenient=lenient,
-            widen=widen,
-            strict=strict,
-        )
+        if [tags, site, path].count(None) != 2:
+            raise TypeError("one of tags, site and path must be given")
+        if message is not None and tags is not None:
+            raise TypeError("message is of a site")
+        self.app, self._message, self._strict = app, message, strict
+        self._rules: Dict[str, Any] = {"default": default, "lenient": lenient, "widen": widen}
+        self._site = site if path is None else SiteFile(path)
+        # (what the application gives is refused here, and never in a request)
+        if self._site is not None:
+            shared = self._site.share()
+            shared.lookup("-" if message is None else message, None, **self._rules)
+        elif tags is not None:
+            self._tags = tags if isinstance(tags, (str, bytes)) else list(tags)
+            if pick(None, self._tags, default=default) is None and default is not None:
+                raise ValueError(f"the default {default!r} is not among the tags")
+
+    def _reader(self, field: Optional[bytes]) -> _Reader:
+        """Returns the reader of a field; a field that is refused counts as none."""
+        try:
+            return self._reader_of(field)
+        except Refused:
+            return self._reader_of(None)
+
+    def _reader_of(self, field: Optional[bytes]) -> _Reader:
+        if self._site is None:
+            language = self._found(lambda it: pick(it, self._tags, **self._rules), field)
+            return _Reader({LANGUAGE: language}, language)
+        # (so that a field is refused here, and not when the application asks for a label)
+        pick(field, [], lenient=self._rules["lenient"])
+        # (the site is let go with the function)
+        site = self._site.share()
+
+        def label(id: str) -> Optional[Label]:
+            return self._found(lambda it: site.lookup(id, it, **self._rules), field)
+
+        first = None if self._message is None else label(self._message)
+        language = None if first is None else first.language
+        return _Reader({LANGUAGE: language, LABEL: label}, language)
+
+    def _found(
+        self, ask: Callable[[Optional[bytes]], Optional[Found]], field: Optional[bytes]
+    ) -> Optional[Found]:
+        """What is found by a field; without `strict` the default if that finds nothing."""
+        found = ask(field)
+        return ask(None) if found is None and not self._strict else found
 
 
 class WSGILanguageMiddleware(_LanguageMiddleware[WSGIApp]):
@@ -199,7 +155,7 @@ class WSGILanguageMiddleware(_LanguageMiddleware[WSGIApp]):
     ) -> Iterable[bytes]:
         """Answers with what the application returns, as it is."""
         field = environ.get("HTTP_ACCEPT_LANGUAGE")
-        reader = self._languages.reader(None if field is None else field.encode("latin-1", "replace"))
+        reader = self._reader(None if field is None else field.encode("latin-1", "replace"))
 
         def start(status: str, headers: Headers, *exc_info: Any) -> Any:
             changed = _with_language(headers, int(status[:3]), reader.language)
@@ -222,7 +178,7 @@ class ASGILanguageMiddleware(_LanguageMiddleware[ASGIApp]):
             await self.app(scope, receive, send)
             return
         fields = [value for name, value in scope["headers"] if name == b"accept-language"]
-        reader = self._languages.reader(b", ".join(fields) if fields else None)
+        reader = self._reader(b", ".join(fields) if fields else None)
 
         async def send_on(event: MutableMapping[str, Any]) -> None:
             if event["type"] in RESPONSE_STARTS:

@@ -11,8 +11,7 @@ usage: editor.py [PROMISE..]
 
 It takes build/browser, as `make browser` builds it, and build/lib/libsilkwaram.so or the file that
 SILKWARAM_LIBRARY names. Needed: Chromium (CHROMIUM names it). What needs more says that it is skipped:
-the state of the page Node, PO files polib, and the companion build/lexicat or the command that LEXICAT
-names.
+the state of the page Node, and lexicat-exchange build/lexicat or the command that LEXICAT names.
 """
 import contextlib
 import json
@@ -25,6 +24,7 @@ import unittest
 
 sys.dont_write_bytecode = True
 from editor_page import LIBRARY, PACKAGE, SOURCES, chromium  # noqa: E402, I001
+import editor_back  # noqa: E402
 import editor_looks  # noqa: E402
 import editor_messages  # noqa: E402
 import editor_more  # noqa: E402
@@ -56,27 +56,18 @@ def state(room):
     return []
 
 
-PROMISES = [
+PROMISES = {it.__name__: it for it in (
     state,
-    editor_promises.any_id,
-    editor_promises.no_edit_lost,
-    editor_promises.no_edit_undone,
-    editor_promises.wrong_clocks,
-    editor_promises.in_parallel,
-    editor_more.work_seen,
-    editor_messages.whole_messages,
-    editor_more.languages_chosen,
-    editor_more.exchange_alone,
-    editor_more.key_wanted,
-    editor_outside.po_files,
+    editor_promises.any_id, editor_promises.no_edit_lost, editor_promises.no_edit_undone,
+    editor_promises.wrong_clocks, editor_promises.in_parallel,
+    editor_more.work_seen, editor_messages.whole_messages, editor_more.languages_chosen,
+    editor_more.exchange_alone, editor_more.key_wanted, editor_outside.po_files,
     editor_more.many_messages,
-    editor_looks.looks,
-    editor_looks.by_keys,
-    editor_still.nothing_jumps,
-    editor_still.in_long_list,
-    editor_outside.by_companion,
-    editor_outside.tampered,
-]
+    editor_looks.looks, editor_looks.by_keys,
+    editor_still.nothing_jumps, editor_still.in_long_list,
+    editor_outside.by_lexicat_exchange, editor_outside.tampered,
+    editor_back.overridden_shown, editor_back.late_files,
+)}
 
 
 def tried(promise, package=PACKAGE):
@@ -109,10 +100,9 @@ def try_without(names):
         remedies = [it for it in json.load(file) if not names or it["promise"] in names]
     passed = []
     for remedy in remedies:
-        promise = next(it for it in PROMISES if it.__name__ == remedy["promise"])
         with tempfile.TemporaryDirectory() as room:
             try:
-                tried(promise, without(remedy, room))
+                tried(PROMISES[remedy["promise"]], without(remedy, room))
             except Exception as why:  # noqa: B902 (a page that is broken may break the test too)
                 print(
                     f"{remedy['promise']} fails without {remedy['old'].strip()[:50]}: "
@@ -135,21 +125,16 @@ def main(words):
     if words[:1] == ["--pictures"]:
         editor_looks.take_pictures(words[1])
         return
-    in_test(*[it for it in PROMISES if not words or it.__name__ in words])
+    in_test(*(words or PROMISES))
 
 
-def needs():
-    """Leaves a test out where something is not there that each of them needs."""
+def in_test(*names):
+    """Tries the promises of these names, each under its sentence, as a test."""
     os.chdir(SOURCES)
     tap.needs("build/browser/silkwaram.wasm", os.path.relpath(LIBRARY))
-
-
-def in_test(*promises):
-    """Tries promises, each under its name, as a test."""
-    needs()
     if chromium.program() is None:
         tap.skip_all("there is no Chromium")
-    for promise in promises:
+    for promise in map(PROMISES.get, names):
         name = promise.__doc__.splitlines()[0].rstrip(".")
         try:
             tried(promise)

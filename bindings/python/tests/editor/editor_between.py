@@ -8,23 +8,13 @@ import threading
 HANGS = 900
 PORTAL = b"<!doctype html><title>Hotel WiFi</title><form action='/login'>Log in</form>"
 
+# The headers that go through it, of answers and of requests.
 PASSED = (
-    "Content-Type",
-    "Content-Encoding",
-    "Cache-Control",
-    "ETag",
-    "Silkwaram-Exchange",
-    "Date",
-    "Content-Security-Policy",
-    "Vary",
+    "Content-Type", "Content-Encoding", "Cache-Control", "ETag", "Silkwaram-Exchange", "Date",
+    "Content-Security-Policy", "Vary",
 )
-
 ASKED = (
-    "Content-Type",
-    "If-None-Match",
-    "Authorization",
-    "Accept-Encoding",
-    "Sec-Fetch-Site",
+    "Content-Type", "If-None-Match", "Authorization", "Accept-Encoding", "Sec-Fetch-Site",
     "Sec-Fetch-Mode",
 )
 

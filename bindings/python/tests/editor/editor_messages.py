@@ -1,5 +1,5 @@
 """What is done to whole messages in the editor: their notes, and their deletion."""
-from editor_page import expect
+from editor_page import equal, expect
 
 
 def whole_messages(room):
@@ -16,7 +16,7 @@ def whole_messages(room):
     def open_dialog(name):
         anna.go(name)
         anna.page.key("m", code="KeyM", modifiers=1)
-        anna.page.until("document.querySelector('#message-dialog').open")
+        anna.opens("#message-dialog")
         anna.run("document.querySelector('#message-dialog textarea').select()")
 
     def note():
@@ -31,12 +31,10 @@ def whole_messages(room):
     anna.page.type("In the head")
     anna.page.key("Enter", modifiers=2)
     anna.page.until(closed)
-    shown = anna.run(f"{anna.row('title')}.querySelector('.note').textContent")
+    shown = anna.seen("title", ".note")
     expect(shown == "In the head" and note() == ["In the head"], f"the note is {shown}")
-    expect(
-        anna.run("document.activeElement.closest('.row')?.label") == "title", "the focus is lost"
-    )
-    anna.run("document.querySelector('#undo').click()")
+    equal(anna.focused(), "title", "the focus is lost")
+    anna.click("#undo")
     expect(note() == ["Above\r\nthe page"], "a note is not taken back")
     # what another wrote meanwhile
     open_dialog("title")
@@ -66,7 +64,7 @@ def whole_messages(room):
     held = room.server.labels()
     expect(list(held) == [("news", "en")], f"of messages that were deleted there is {list(held)}")
     for _ in range(2):
-        anna.run("document.querySelector('#undo').click()")
+        anna.click("#undo")
     anna.exchange()
     held = room.server.labels()
     expect(len(held) == 6 and held[("title", "fr")] == ["Titre"], f"taken back are {list(held)}")

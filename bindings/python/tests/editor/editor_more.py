@@ -1,6 +1,7 @@
 """More promises of the editor: work that is seen, languages, exchanges by themselves, many
 messages."""
-from editor_page import SHORT_MINUTE, Editor, expect, quoted, tap
+from editor_page import SHORT_MINUTE, Editor, equal, expect, quoted, tap
+from editor_promises import EMPTY
 
 # What the line of the exchange says once none runs.
 OUTCOME = """(async () => {
@@ -38,20 +39,12 @@ def work_seen(room):
     for editor in (anna, ben):
         editor.exchanged()
         editor.languages("en", "fr")
-    expect(
-        anna.said("#progress-text") == "2 of 7", f"the progress is {anna.said('#progress-text')}"
-    )
+    equal(anna.said("#progress-text"), "2 of 7", "the progress")
     tags = anna.run("[...document.querySelector('#language').options].map((it) => it.value)")
     expect("en" in tags and "x-note" not in tags, f"notes are taken for a language: {tags}")
-    expect(
-        "French: 2 of 7" in anna.said("#language"),
-        f"of the languages it is said: {anna.said('#language')}",
-    )
-    expect(
-        anna.run(f"{anna.row('greeting')}.querySelector('.note').textContent")
-        == "On the first page",
-        "no note is shown",
-    )
+    said = anna.said("#language")
+    expect("French: 2 of 7" in said, f"of the languages it is said: {said}")
+    equal(anna.seen("greeting", ".note"), "On the first page", "the note")
     # placeholders, and a copy of the source
     anna.go("greeting")
     anna.page.type("Bonjour %s")
@@ -71,7 +64,7 @@ def work_seen(room):
     anna.write("items", "%d article")
     anna.write("items", "%d articles", 1)
     anna.exchange()
-    expect(room.server.labels()[("items", "fr")] == ["%d article", "%d articles"], "a form is lost")
+    room.server.has("items", "fr", ["%d article", "%d articles"], "a form is lost")
     # outdated, and still right
     ben.exchange()
     ben.language("#language", "en")
@@ -93,13 +86,13 @@ def work_seen(room):
     anna.go("search")
     anna.page.key("Enter", modifiers=2)
     expect(anna.count("outdated") == 0, "what is still right stays outdated")
-    who = anna.run(f"{anna.row('title')}.querySelector('.who').textContent")
+    who = anna.seen("title", ".who")
     expect(who.startswith("anna"), f"it is said of who wrote it: {who}")
     # undo, more than one, by Control+Z too
     anna.show("all")
     anna.write("news", "Le port est ouvert.")
     anna.write("weather", "Pluie.")
-    anna.run("document.querySelector('#undo').click()")
+    anna.click("#undo")
     expect(anna.text("weather") == "", "the last edit is not taken back")
     anna.go("title")
     anna.page.key("z", code="KeyZ", modifiers=2)
@@ -112,39 +105,30 @@ def languages_chosen(room):
     """6. Languages are chosen, not typed."""
     anna = room.editor("anna", "en-US,en")
     anna.add("title", "Title")
-    expect(
-        list(anna.labels()) == [("title", "en")], f"a new site begins with {list(anna.labels())}"
-    )
-    for typed, tag in (
-        ("German", "de"),
-        ("Français", "fr"),
-        ("pt-BR", "pt-br"),
-        ("日本語", "ja"),
-        ("klingon", "klingon"),
-    ):
+    equal(list(anna.labels()), [("title", "en")], "what a new site begins with")
+    typed_as = {"German": "de", "Français": "fr", "pt-BR": "pt-br", "日本語": "ja", "klingon": "klingon"}
+    for typed, tag in typed_as.items():
         anna.choose("#language", "..")
-        anna.page.until("document.querySelector('#language-dialog').open")
+        anna.opens("#language-dialog")
         anna.page.type(typed)
         anna.page.key("Enter")
         if tag == "klingon":
+            anna.opens("#language-dialog")
             said = anna.said("#language-dialog .bad")
-            expect(
-                "klingon" in said and anna.run("document.querySelector('#language-dialog').open"),
-                "an unknown language is not warned of",
-            )
+            expect("klingon" in said, "an unknown language is not warned of")
             anna.page.key("Enter")
-        anna.page.until("!document.querySelector('#language-dialog').open")
+        anna.closes("#language-dialog")
         anna.page.until(f"document.querySelector('#language').value === {quoted(tag)}")
         anna.write("title", typed)
         anna.kept()
     tags = sorted(tag for _, tag in anna.labels())
     expect(tags == ["de", "en", "fr", "ja", "klingon", "pt-br"], f"the languages are {tags}")
     anna.choose("#language", "..")
-    anna.page.until("document.querySelector('#language-dialog').open")
+    anna.opens("#language-dialog")
     anna.page.type("no such language!")
     anna.page.key("Enter")
     expect("No language" in anna.said("#language-dialog .bad"), "a name of no language is taken")
-    anna.run("document.querySelector('#language-dialog .leave').click()")
+    anna.click("#language-dialog .leave")
     anna.page.until("document.querySelector('#language').value === 'klingon'")
     return [anna]
 
@@ -179,16 +163,13 @@ def exchange_alone(room):
             anna.exchange()
             line = anna.run(OUTCOME)
             said[fault] = line.partition("Not exchanged")[0].partition("Exchanged")[0].strip()
-            expect(
-                said[fault] and "refused" not in said[fault].lower(),
-                f"of {fault} it is said: {line}",
-            )
+            is_told = said[fault] and "refused" not in said[fault].lower()
+            expect(is_told, f"of {fault} it is said: {line}")
             if fault == "portal":
                 anna.reload()
                 anna.page.until(anna.row("title"))
-                expect(
-                    "WiFi" not in anna.run("document.title"), "the kept page is that of a portal"
-                )
+                title = anna.run("document.title")
+                expect("WiFi" not in title, f"the kept page is {title}")
         anna.exchange()
     expect(len(set(said.values())) == len(said), f"faults are not told apart: {said}")
     # (a page that waited for it would show its rows after an exchange that has failed)
@@ -205,30 +186,26 @@ def exchange_alone(room):
         anna.reload()
         anna.page.until(anna.row("title"))
     # by file: a colleague's is taken in under one's own name, and nothing is taken from a cut one
-    carl = (
-        '{"cells":[["title","it",5,"carl",0,["Titolo"]]],"kind":"site","site":"carl","version":2}'
-    )
+    carl = EMPTY.replace("NAME", "carl").replace("[]", '[["title","it",5,"carl",0,["Titolo"]]]')
     anna.give("#files-dialog .open-site", "carl.json", carl)
-    anna.page.until("document.querySelector('#ask-dialog').open")
+    anna.opens("#ask-dialog")
     first = anna.run("document.querySelector('#ask-dialog button').value")
     expect(first == "takeIn", f"what is offered first is {first}")
     anna.answer("takeIn")
     anna.page.until("document.querySelector('#notice').textContent.includes('Taken in: 1')")
     expect(anna.said("#site-name") == "anna", "another's file makes this browser that other")
     anna.exchange()
-    expect(
-        room.server.labels()[("title", "it")] == ["Titolo"], "what came by a file is not exchanged"
-    )
+    room.server.has("title", "it", ["Titolo"], "what came by a file is not exchanged")
     anna.give("#files-dialog .open-site", "cut.json", carl[:40])
     anna.page.until("!document.querySelector('#problem').hidden")
     expect("not such a file" in anna.problem(), f"of a cut file it is said: {anna.problem()}")
     # language maps
-    anna.give(
-        "#take-maps", "maps.json", '{"news":{"en":"New","it":"Notizie"},"__proto__":{"en":"p"}}'
-    )
+    maps = '{"news":{"en":"New","it":"Notizie"},"__proto__":{"en":"p"}}'
+    anna.give("#take-maps", "maps.json", maps)
+    anna.answer("takeIn")
     anna.page.until("document.querySelector('#notice').textContent.includes('Taken in: 3')")
     anna.exchange()
-    expect(room.server.labels()[("__proto__", "en")] == ["p"], "maps are not taken in")
+    room.server.has("__proto__", "en", ["p"], "maps are not taken in")
     return [anna, ben]
 
 
@@ -240,13 +217,11 @@ def key_wanted(room):
     room.server.put(["title", "en", ["Title"]])
     expect(room.server.ask("GET", "/summary")[0] == 401, "a summary is answered without the key")
     expect(room.server.ask("POST", "/delta", "{}")[0] == 401, "a delta is taken without the key")
-    expect(
-        room.server.ask("GET", "/summary", Authorization="Bearer secret12345")[0] == 200,
-        "the key is refused",
-    )
+    status = room.server.ask("GET", "/summary", Authorization="Bearer secret12345")[0]
+    equal(status, 200, "a summary with the key")
     anna = room.editor("anna")
     anna.page.until("document.querySelector('#problem span button')")
-    anna.run("document.querySelector('#problem span button').click()")
+    anna.click("#problem span button")
     anna.page.type("secret12345")
     anna.page.key("Enter")
     anna.page.until(anna.row("title"))
@@ -295,25 +270,11 @@ with silkwaram.edit(sys.argv[1]) as site: site.import_maps(maps)
     for turn in range(7):
         anna.go(name)
         anna.page.type(f"Texte changé {turn}")
-        figures["edit"].append(
-            spent(
-                lambda: anna.page.key("Enter"),
-                "document.querySelector('#notice').textContent.includes('Kept')",
-            )
-        )
+        is_kept = "document.querySelector('#notice').textContent.includes('Kept')"
+        figures["edit"].append(spent(lambda: anna.page.key("Enter"), is_kept))
         anna.run("document.querySelector('#notice').textContent = ''")
-        wanted = f"message.0{turn + 1}00"
-        search = lambda: anna.run(
-            f"(() => {{ const it = document.querySelector('#find'); it.value = {quoted(wanted)};"
-            " it.dispatchEvent(new Event('input')); })()"
-        )
-        figures["find"].append(
-            spent(search, "document.querySelectorAll('.row').length === 1 || true")
-        )
-        anna.run(
-            "(() => { const it = document.querySelector('#find'); it.value = '';"
-            " it.dispatchEvent(new Event('input')); })()"
-        )
+        figures["find"].append(spent(lambda: anna.find(f"message.0{turn + 1}00"), "true"))
+        anna.find("")
         anna.page.until(anna.row(name))
     rows = anna.run("document.querySelectorAll('.row').length")
     expect(rows < 100, f"{rows} rows are in the page")

@@ -34,6 +34,10 @@ def expect(is_so, what):
         fail(what)
 
 
+def equal(found, wanted, what):
+    expect(found == wanted, f"{what}: {found!r}, not {wanted!r}")
+
+
 class Server:
     """The editor's server over a file, which can be stopped and started again, also by another
     Python."""
@@ -100,6 +104,10 @@ with silkwaram.edit(sys.argv[1], create='server') as site:
             (name, tag): texts for name, tag, *_, texts in json.loads(self.site())["cells"] if texts
         }
 
+    def has(self, name, tag, texts, what):
+        """Sees that a label has these texts; if not, `what` is wrong."""
+        equal(self.labels().get((name, tag)), texts, what)
+
     def time_of(self, name, tag):
         return next(cell[2] for cell in json.loads(self.site())["cells"] if cell[:2] == [name, tag])
 
@@ -149,6 +157,14 @@ class Editor:
             " return it.hidden ? '' : it.firstElementChild.textContent; })()"
         )
 
+    def seen(self, name, of):
+        """The text of a part of a message's row."""
+        return self.run(f"{self.row(name)}.querySelector({quoted(of)}).textContent")
+
+    def focused(self):
+        """The message whose row has the focus."""
+        return self.run("document.activeElement.closest('.row')?.label")
+
     def row(self, name):
         return f"[...document.querySelectorAll('.row')].find((it) => it.label === {quoted(name)})"
 
@@ -186,7 +202,22 @@ class Editor:
         """Waits until what is typed is kept."""
         self.page.until(DRAFTED % quoted(text))
 
+    def opens(self, dialog):
+        self.page.until(f"document.querySelector({quoted(dialog)}).open")
+
+    def closes(self, dialog):
+        self.page.until(f"!document.querySelector({quoted(dialog)}).open")
+
     # What is done.
+
+    def click(self, of):
+        self.run(f"document.querySelector({quoted(of)}).click()")
+
+    def find(self, text):
+        self.run(
+            f"(() => {{ const it = document.querySelector('#find'); it.value = {quoted(text)};"
+            " it.dispatchEvent(new Event('input')); })()"
+        )
 
     def choose(self, box, value):
         self.run(
@@ -203,26 +234,26 @@ class Editor:
             self.choose(box, tag)
             return
         self.choose(box, "..")
-        self.page.until("document.querySelector('#language-dialog').open")
+        self.opens("#language-dialog")
         self.page.type(tag)
         self.page.key("Enter")
-        self.page.until("!document.querySelector('#language-dialog').open")
+        self.closes("#language-dialog")
 
     def languages(self, source, into):
         self.language("#source", source)
         self.language("#language", into)
 
     def show(self, kind):
-        self.run(f"document.querySelector('#shown input[value={kind}]').click()")
+        self.click(f"#shown input[value={kind}]")
 
     def add(self, name, text):
-        self.run("document.querySelector('#open-new').click()")
+        self.click("#open-new")
         self.page.until("document.activeElement.name === 'id'")
         self.page.type(name)
         self.run("document.querySelector('#new-dialog [name=text]').focus()")
         self.page.type(text)
         self.page.key("Enter")
-        self.page.until("!document.querySelector('#new-dialog').open")
+        self.closes("#new-dialog")
         self.page.until(self.row(name))
 
     def reach(self, name):
@@ -282,8 +313,8 @@ class Editor:
 
     def answer(self, word):
         """Chooses in the dialog that asks what to do."""
-        self.page.until("document.querySelector('#ask-dialog').open")
-        self.run(f"document.querySelector('#ask-dialog button[value={word}]').click()")
+        self.opens("#ask-dialog")
+        self.click(f"#ask-dialog button[value={word}]")
 
     def faults(self):
         thrown = [

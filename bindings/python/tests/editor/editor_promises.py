@@ -4,33 +4,16 @@ import tempfile
 import time
 
 from editor_between import Between
-from editor_page import CLOCK, DAY, Editor, Server, cells_of, chromium, expect
+from editor_page import CLOCK, DAY, Editor, Server, cells_of, chromium, equal, expect
 
 HOSTILE = [
-    "__proto__",
-    "constructor",
-    "toString",
-    "hasOwnProperty",
-    "valueOf",
-    "prototype",
-    "then",
-    "<script>window.pwned=1</script>",
-    "<img src=x onerror=window.pwned=1>",
-    "\"'`",
-    "' onclick='x",
-    "../../summary",
-    "a b",
-    "\u202egnp.exe",
-    "\u200b",
-    "é" * 64,
-    "x" * 128,
-    "$&{name}",
-    "&lt;b&gt;",
+    "__proto__", "constructor", "toString", "hasOwnProperty", "valueOf", "prototype", "then",
+    "<script>window.pwned=1</script>", "<img src=x onerror=window.pwned=1>", "\"'`",
+    "' onclick='x", "../../summary", "a b", "\u202egnp.exe", "\u200b", "é" * 64, "x" * 128,
+    "$&{name}", "&lt;b&gt;",
 ]
 NO_LOCKS = "Object.defineProperty(Navigator.prototype, 'locks', { get: () => undefined });"
-NO_STORE = (
-    "IDBFactory.prototype.open = () => { throw new DOMException('denied', 'SecurityError'); };"
-)
+NO_STORE = "IDBFactory.prototype.open = () => { throw new DOMException('no', 'SecurityError'); };"
 FULL = """(() => { const put = IDBObjectStore.prototype.put; globalThis.isFull = false;
   IDBObjectStore.prototype.put = function (...given) {
     if (globalThis.isFull) { this.transaction.abort(); return put.apply(this, given); }
@@ -66,11 +49,8 @@ def any_id(room):
     anna = room.editor("anna")
     anna.exchanged()
     anna.languages("en", "fr")
-    expect(
-        anna.count("all") == len(HOSTILE),
-        f"of {len(HOSTILE)} messages {anna.count('all')} are counted",
-    )
-    expect(anna.count("missing") == len(HOSTILE), f"{anna.count('missing')} are missing")
+    equal(anna.count("all"), len(HOSTILE), "messages")
+    equal(anna.count("missing"), len(HOSTILE), "messages that lack a text")
     expect(anna.count("outdated") == 0, "a message is to be looked at again without a text")
     anna.show("missing")
     for name in HOSTILE:
@@ -80,39 +60,22 @@ def any_id(room):
     for name in ("__proto__", "constructor", HOSTILE[7]):
         anna.write(name, f"fr {name}")
     anna.exchange()
-    anna.run("document.querySelector('#open-reader').click()")
+    anna.click("#open-reader")
     anna.run("document.querySelector('#reader-dialog').close()")
     for name in ("__proto__", "constructor", HOSTILE[7]):
-        expect(
-            room.server.labels().get((name, "fr")) == [f"fr {name}"], f"{name!r} does not arrive"
-        )
+        room.server.has(name, "fr", [f"fr {name}"], f"{name!r} does not arrive")
     anna.reload()
     anna.page.until(anna.row("__proto__"))
     expect(anna.labels()[("__proto__", "fr")] == ["fr __proto__"], "it is not kept")
-    expect(
-        anna.run(
-            "window.pwned === undefined &&"
-            " document.querySelector('li script, li img, li b b') === null"
-        ),
-        "a text has become markup",
-    )
-    expect(
-        anna.run("Object.keys(Object.prototype).length") == 0,
-        "all objects have members of a message",
-    )
+    markup = "document.querySelector('li script, li img, li b b')"
+    expect(anna.run(f"window.pwned === undefined && {markup} === null"), "a text is markup")
+    equal(anna.run("Object.keys(Object.prototype).length"), 0, "members that all objects have")
     _, heads, _ = room.server.ask("GET", "/")
     policy = heads["Content-Security-Policy"]
-    for part in (
-        "default-src 'none'",
-        "frame-ancestors 'none'",
-        "form-action 'none'",
-        "base-uri 'none'",
-    ):
-        expect(part in policy, f"the policy has no {part}")
-    expect(
-        "unsafe-inline" not in policy and heads["X-Frame-Options"] == "DENY",
-        "the policy lets more in",
-    )
+    for part in ("default-src", "frame-ancestors", "form-action", "base-uri"):
+        expect(f"{part} 'none'" in policy, f"the policy has no {part}")
+    is_strict = "unsafe-inline" not in policy and heads["X-Frame-Options"] == "DENY"
+    expect(is_strict, "the policy lets more in")
     return [anna]
 
 
@@ -158,7 +121,7 @@ def no_edit_lost(room):
         anna.go("news")
         anna.page.key("Enter")
         anna.exchange()
-        expect(room.server.labels()[("news", "fr")] == ["Nouvelles du jour"], "it is not exchanged")
+        room.server.has("news", "fr", ["Nouvelles du jour"], "it is not exchanged")
     # without locks, and without a store
     for before in (NO_LOCKS, NO_STORE):
         ben = Editor(room.browser(), room.address, before=before)
@@ -167,13 +130,14 @@ def no_edit_lost(room):
         ben.give("#start .open-site", "ben.json", EMPTY.replace("NAME", "ben"))
         ben.page.until("document.querySelector('#work:not([hidden])')")
         ben.exchange()
+        ben.languages("fr", "en")
         with room.between.faulty("away"):
             ben.write("title", f"Titel {len(before)}")
             expect("NOT KEPT" in ben.said("#kept"), f"it is not said: {ben.said('#kept')}")
         ben.exchange()
         expect("NOT KEPT" not in ben.said("#kept"), "what was exchanged is said not to be kept")
-        label = room.server.labels()[("title", "en")]
-        expect(label == [f"Titel {len(before)}"], f"an edit without a store is lost: {label}")
+        label = [f"Titel {len(before)}"]
+        room.server.has("title", "en", label, "an edit without a store is lost")
         room.browsers.pop().kill()
     # a full store
     carl = Editor(room.browser(), room.address, "carl", before=FULL)
@@ -218,10 +182,7 @@ def no_edit_undone(room):
     anna.go("items")
     anna.page.key("Enter")
     anna.exchange()
-    expect(
-        room.server.labels()[("items", "fr")] == ["un ANNA", "plusieurs BEN"],
-        f"an edit is undone: {room.server.labels()[('items', 'fr')]}",
-    )
+    room.server.has("items", "fr", ["un ANNA", "plusieurs BEN"], "an edit is undone")
     # both change one text
     anna.go("title")
     anna.page.type("Titre ANNA")
@@ -229,29 +190,24 @@ def no_edit_undone(room):
     ben.exchange()
     anna.exchange()
     anna.page.until(f"{anna.row('title')}.querySelector('.other')")
-    other = anna.run(f"{anna.row('title')}.querySelector('.other').textContent")
+    other = anna.seen("title", ".other")
     expect("Titre BEN" in other and "ben" in other, f"the other text is not shown: {other}")
     anna.run(f"{anna.row('title')}.querySelector('textarea').focus()")
     anna.page.key("Enter")
     anna.exchange()
-    expect(room.server.labels()[("title", "fr")] == ["Titre BEN"], "the first Enter decides")
+    room.server.has("title", "fr", ["Titre BEN"], "the first Enter decides")
     anna.run(f"{anna.row('title')}.querySelector('textarea').focus()")
     anna.page.key("Enter")
     anna.exchange()
-    expect(
-        room.server.labels()[("title", "fr")] == ["Titre ANNA"], "the second Enter does not decide"
-    )
+    room.server.has("title", "fr", ["Titre ANNA"], "the second Enter does not decide")
     # an undo takes back no edit of another
     ben.exchange()
     ben.write("title", "Titre de BEN")
     ben.exchange()
     anna.exchange()
-    anna.run("document.querySelector('#undo').click()")
+    anna.click("#undo")
     anna.exchange()
-    expect(
-        room.server.labels()[("title", "fr")] == ["Titre de BEN"],
-        "an undo takes back another's edit",
-    )
+    room.server.has("title", "fr", ["Titre de BEN"], "an undo takes back another's edit")
     # CR LF
     before = room.server.site()
     anna.go("cr")
@@ -283,7 +239,7 @@ def wrong_clocks(room):
         before = time.time() * 1000
         editor.write("title", name)
         editor.exchanged()
-        expect(room.server.labels()[("title", "fr")] == [name], "an edit does not arrive")
+        room.server.has("title", "fr", [name], "an edit does not arrive")
         is_of_now(room.server.time_of("title", "fr"), before)
     # a clock that is ahead while there is no server to compare it with
     carl = Editor(room.browser(), room.address, "carl")
@@ -302,19 +258,15 @@ def wrong_clocks(room):
     expect(("title", "it") not in room.server.labels(), "a late edit arrives")
     room.server.put(["news", "de", ["Neues"]])
     carl.exchange()
-    expect(
-        carl.labels().get(("news", "de")) == ["Neues"], "nothing is received because of a late edit"
-    )
-    carl.run("document.querySelector('#problem span button').click()")
-    carl.page.until("document.querySelector('#files-dialog').open")
+    came = carl.labels().get(("news", "de"))
+    equal(came, ["Neues"], "nothing is received because of a late edit")
+    carl.click("#problem span button")
+    carl.opens("#files-dialog")
     before = time.time() * 1000
-    carl.run("document.querySelector('#begin-anew').click()")
+    carl.click("#begin-anew")
     carl.page.until("document.querySelector('#site-name').textContent === 'carl-2'")
     carl.exchanged()
-    expect(
-        room.server.labels()[("title", "it")] == ["Titolo"],
-        "a site that began anew has lost a label",
-    )
+    room.server.has("title", "it", ["Titolo"], "a site that began anew has lost a label")
     is_of_now(room.server.time_of("title", "it"), before)
     # a late row of another, which an editor leaves out and counts
     room.server.python(
@@ -325,9 +277,8 @@ with silkwaram.edit(sys.argv[1]) as site: site.put('late', 'en', 'x', now=late)
 """
     )
     carl.exchange()
-    expect(
-        "far ahead: 1" in carl.said("#notice"), f"of late labels it is said: {carl.said('#notice')}"
-    )
+    said = carl.said("#notice")
+    expect("far ahead: 1" in said, f"of late labels it is said: {said}")
     expect(("late", "en") not in carl.labels(), "a late label is taken")
     return [carl]
 
@@ -335,10 +286,7 @@ with silkwaram.edit(sys.argv[1]) as site: site.put('late', 'en', 'x', now=late)
 def in_parallel(room):
     """Edits apart while the server is killed, an exchange that is lost and one that comes twice."""
     anna, badr = room.editor("anna"), room.editor("badr", "ar,en")
-    expect(
-        badr.run("document.documentElement.dir") == "rtl",
-        "the page is not in the reader's language",
-    )
+    equal(badr.run("document.documentElement.dir"), "rtl", "the page is not in the reader's language")
     for name in ("title", "greeting", "news", "search"):
         anna.add(name, f"{name} in English")
     anna.exchange()
@@ -350,10 +298,8 @@ def in_parallel(room):
     badr.write("greeting", "صباح الخير")
     for editor in (anna, badr):
         editor.exchange()
-        expect(
-            "due" in editor.run("document.querySelector('#exchanged').className"),
-            "it is not said that the server is away",
-        )
+        line = editor.run("document.querySelector('#exchanged').className")
+        expect("due" in line, "it is not said that the server is away")
         before = editor.kept()
         editor.reload()
         editor.page.until(editor.row("title"))
@@ -366,16 +312,11 @@ def in_parallel(room):
     badr.exchange()
     anna.exchange()
     badr.exchange()
+    equal(room.between.seen, ["lose", "double"], "the faults that came to be")
+    sites = [cells_of(room.server.site()), *[json.loads(it.kept()) for it in (anna, badr)]]
     expect(
-        room.between.seen == ["lose", "double"],
-        f"of the faults only these came to be: {room.between.seen}",
-    )
-    sites = [
-        json.dumps(cells_of(room.server.site())),
-        *[json.dumps(json.loads(it.kept())) for it in (anna, badr)],
-    ]
-    expect(
-        len(set(sites)) == 1, "the cells are not the same:\n" + "\n".join(it[:900] for it in sites)
+        sites[0] == sites[1] == sites[2],
+        "the cells are not the same:\n" + "\n".join(json.dumps(it)[:900] for it in sites),
     )
     expect(anna.labels()[("greeting", "ar")] == ["صباح الخير"], "an edit is lost")
     return [anna, badr]

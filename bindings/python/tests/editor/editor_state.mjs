@@ -120,6 +120,57 @@ const tests = {
     assert.equal(work.came[0].site, 'ben');
   },
 
+  'what is overridden is known, and can be put back'() {
+    const [anna, ben] = ['anna', 'ben'].map((name) => workOf(name));
+    anna.setTexts('m', 'fr', ['first']);
+    ben.join(anna.site);
+    anna.setTexts('m', 'fr', ['anna']);
+    anna.setTexts('n', 'fr', ['kept']);
+    ben.join(anna.site);
+    ben.setTexts('m', 'fr', ['ben']);
+    ben.setTexts('o', 'fr', ['new']);
+    assert.deepEqual(anna.join(ben.site), { received: 2, overridden: 1, late: 0 });
+    const { before, was, site, texts } = anna.cameAt('m', 'fr');
+    assert.deepEqual([before, was, site, texts], [['anna'], 'anna', 'ben', ['ben']]);
+    assert.equal(anna.cameAt('n', 'fr'), null);
+    assert.ok(anna.putBack('m', 'fr'));
+    assert.deepEqual(anna.labels.textsOf('m', 'fr'), ['anna']);
+    assert.equal(anna.cameAt('m', 'fr'), null);
+    assert.equal(anna.undo().is, 'undone');
+    assert.deepEqual(anna.labels.textsOf('m', 'fr'), ['ben']);
+  },
+
+  'a file that comes back changes what was edited in it'() {
+    const work = workOf('anna');
+    for (const id of ['__proto__', 'a', 'b']) work.setTexts(id, 'fr', [`${id} 1`]);
+    const sent = JSON.stringify(work.site.export());
+    work.setTexts('a', 'fr', ['a corrected']);
+    const back = '{"__proto__":{"fr":"edited"},"a":{"fr":"a 1"},"c":{"fr":["x","y"]}}';
+    const taken = work.takeIn(back, sent).map(({ id }) => id);
+    assert.deepEqual(taken.sort(), ['__proto__', 'b', 'c']);
+    const held = () => ['__proto__', 'a', 'b', 'c'].map((id) => work.labels.textsOf(id, 'fr'));
+    assert.deepEqual(held(), [['edited'], ['a corrected'], [], ['x', 'y']]);
+    const { is, labels } = work.undo();
+    assert.deepEqual([is, labels.length], ['undone', 3]);
+    assert.deepEqual(held(), [['__proto__ 1'], ['a corrected'], ['b 1'], []]);
+    // without what went out each label that is another one is put
+    assert.deepEqual(work.changesOf(back).map(({ id }) => id).sort(), ['__proto__', 'a', 'c']);
+    assert.throws(() => work.takeIn('{"a":'), { number: 19 });
+    // what others changed since is not taken back
+    work.takeIn('{"a":{"fr":"taken"},"b":{"fr":"taken"}}');
+    work.setTexts('a', 'fr', ['later'], { isUndone: true });
+    assert.equal(work.undo().labels.length, 1);
+    assert.deepEqual([work.labels.textsOf('a', 'fr'), work.labels.textsOf('b', 'fr')], [['later'], ['b 1']]);
+  },
+
+  'what is older than its source is so by its time'() {
+    const labels = new Labels([
+      ['m', 'de', 5, 'x', 0, ['d']], ['m', 'en', 5, 'x', 1, ['e']], ['n', 'de', 5, 'x', 2, ['d']],
+      ['n', 'en', 6, 'a', 0, ['e']],
+    ]);
+    assert.ok(!labels.isOutdated('m', 'de', 'en') && labels.isOutdated('n', 'de', 'en'));
+  },
+
   'clocks'() {
     let device = 10 * DAY + 1e12;
     const clock = new Clock(null, () => device);
@@ -148,17 +199,17 @@ const tests = {
     assert.equal(work.late(), 2);
     assert.equal(work.sendable().size, 0);
     const ben = workOf('ben');
-    assert.deepEqual(ben.join(work.site), { received: 0, late: 2 });
+    assert.deepEqual(ben.join(work.site), { received: 0, overridden: 0, late: 2 });
     const fresh = work.begunAnew('anna-2');
     assert.equal(fresh.late(), 0);
-    assert.deepEqual(ben.join(fresh.site), { received: 2, late: 0 });
+    assert.deepEqual(ben.join(fresh.site), { received: 2, overridden: 0, late: 0 });
     assert.deepEqual(ben.labels.textsOf('__proto__', 'fr'), ['late']);
     assert.deepEqual([...fresh.unsent.keys()].sort(), [keyOf('__proto__', 'fr'), keyOf('b', 'fr')]);
   },
 
   'placeholders'() {
-    // (the rows that companions/tests/check/placeholders.t has for lexicat-check too)
-    const rows = JSON.parse(readFileSync(new URL('../../../../companions/tests/check/rows.json', import.meta.url)));
+    // (the rows that ../tools/check/placeholders.t has for lexicat-check too)
+    const rows = JSON.parse(readFileSync(new URL('../tools/check/rows.json', import.meta.url)));
     const labels = [
       ...rows.texts.map(([source, text, ...wanted]) => ['xx', [source], [text], [wanted]]),
       ...rows.labels,

@@ -193,17 +193,10 @@ def arriving(still, language):
     editor.go("m11")
     still.told(413, lambda: editor.run("scrollTo(0, document.body.scrollHeight)"))
     # a list that is lower than the window
-    search(editor, "few")
+    editor.find("few")
     editor.go("zfew.3")
     still.came("a longer one of few", ["zfew.1", "en", [LONG]], until=longer("zfew.1"))
-    search(editor, "")
-
-
-def search(editor, text):
-    editor.run(
-        f"(() => {{ const it = document.querySelector('#find'); it.value = {quoted(text)};"
-        " it.dispatchEvent(new Event('input')); })()"
-    )
+    editor.find("")
 
 
 def in_dialogs(still):
@@ -221,7 +214,7 @@ def in_dialogs(still):
         "document.querySelector('#new-dialog .bad').textContent !== ''",
     )
     editor.run("document.querySelector('#new-dialog').close()")
-    editor.run("document.querySelector('#open-reader').click()")
+    editor.click("#open-reader")
     editor.run("document.querySelector('#reader-field').select()")
     counts = "document.querySelector('#reader-counts').textContent"
     before = editor.run(counts)

@@ -5,12 +5,5 @@ import sys
 
 sys.dont_write_bytecode = True
 import editor  # noqa: E402
-from editor_promises import (  # noqa: E402
-    any_id,
-    in_parallel,
-    no_edit_lost,
-    no_edit_undone,
-    wrong_clocks,
-)
 
-editor.in_test(any_id, no_edit_lost, no_edit_undone, wrong_clocks, in_parallel)
+editor.in_test("any_id", "no_edit_lost", "no_edit_undone", "wrong_clocks", "in_parallel")

@@ -5,7 +5,5 @@ import sys
 
 sys.dont_write_bytecode = True
 import editor  # noqa: E402
-from editor_more import many_messages  # noqa: E402
-from editor_still import in_long_list  # noqa: E402
 
-editor.in_test(many_messages, in_long_list)
+editor.in_test("many_messages", "in_long_list")

@@ -5,6 +5,5 @@ import sys
 
 sys.dont_write_bytecode = True
 import editor  # noqa: E402
-from editor_looks import looks  # noqa: E402
 
-editor.in_test(looks)
+editor.in_test("looks")

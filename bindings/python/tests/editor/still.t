@@ -5,6 +5,5 @@ import sys
 
 sys.dont_write_bytecode = True
 import editor  # noqa: E402
-from editor_still import nothing_jumps  # noqa: E402
 
-editor.in_test(nothing_jumps)
+editor.in_test("nothing_jumps")

@@ -5,8 +5,5 @@ import sys
 
 sys.dont_write_bytecode = True
 import editor  # noqa: E402
-from editor_looks import by_keys  # noqa: E402
-from editor_messages import whole_messages  # noqa: E402
-from editor_more import languages_chosen, work_seen  # noqa: E402
 
-editor.in_test(work_seen, whole_messages, languages_chosen, by_keys)
+editor.in_test("work_seen", "whole_messages", "languages_chosen", "by_keys")

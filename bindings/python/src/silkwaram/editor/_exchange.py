@@ -2,12 +2,12 @@
 import hashlib
 import os
 import threading
-import time
 from typing import Any, NamedTuple, Optional, Tuple
 
 from silkwaram import Site, edit
+from silkwaram._site_file import open_plain, state_of
+from silkwaram.tools._shared import MILLISECONDS_OF_A_DAY, clock
 
-A_DAY = 24 * 60 * 60 * 1000
 # Seconds that an exchange waits for who else has the lock of the file.
 LONGEST_WAIT = 10.0
 
@@ -25,7 +25,7 @@ def _tag(site: Site) -> str:
 
 
 class Exchange:
-    """The file of a site, which others may edit too. It is read anew where it was replaced."""
+    """The file of a site, which others may edit too. It is read anew if it was replaced."""
 
     def __init__(self, path: str, name: str) -> None:
         """Makes the file if it is not there. Refused: as by `silkwaram.edit`."""
@@ -39,9 +39,8 @@ class Exchange:
     def current(self) -> Tuple[Site, str]:
         """A share of the site as the file has it, and what names this state."""
         with self._lock:
-            with open(self._path, "rb") as file:
-                it = os.fstat(file.fileno())
-                found = (it.st_dev, it.st_ino, it.st_size, it.st_mtime_ns, it.st_ctime_ns)
+            with open_plain(self._path) as file:
+                found = state_of(os.fstat(file.fileno()))
                 if self._state is None or self._state.file != found:
                     site = Site.open(file.read())
                     self._state = State(found, site, _tag(site))
@@ -65,19 +64,19 @@ class Exchange:
         with site:
             return site.delta_for(summary), tag
 
-    def take(self, delta: bytes) -> Tuple[str, str]:
-        """Takes a delta. Answers what names the states before and after it.
+    def take(self, by: str, delta: bytes) -> Tuple[str, str]:
+        """Takes a delta of somebody. Answers what names the states before and after it.
 
-        Refused: as by `Site.take`; 29, where it has a time of more than a day ahead.
+        Refused: as by `Site.take`, with the clock and a day as its limit.
         """
-        with edit(self._path, wait=LONGEST_WAIT) as site:
+        with edit(self._path, wait=LONGEST_WAIT, log=f"the editor of {by}") as site:
             before = _tag(site)
-            site.take(delta, not_after=int(time.time() * 1000) + A_DAY)
+            site.take(delta, not_after=clock() + MILLISECONDS_OF_A_DAY)
             return before, _tag(site)
 
-    def update(self, old: Any, new: Any) -> None:
-        """Makes the edits that lead from some language maps to others."""
-        with edit(self._path, wait=LONGEST_WAIT) as site:
+    def update(self, by: str, old: Any, new: Any) -> None:
+        """Makes the edits of somebody that lead from some language maps to others."""
+        with edit(self._path, wait=LONGEST_WAIT, log=f"a PO file of {by}") as site:
             site.update(old, new)
 
     def document(self) -> bytes:

@@ -1,51 +1,29 @@
-"""The server of the page, and of the exchange that README.md states."""
-import gzip
-import hmac
+"""A server of its own for the application: connections, and what is logged of them."""
 import http.server
-import json
+import io
 import socket
-import sys
-from http import HTTPStatus
-from typing import Callable, Dict, Optional, Tuple
-from urllib.parse import parse_qs
+import time
+from typing import Any, List, Optional, TextIO, Tuple
+from urllib.parse import unquote
 
-from silkwaram import Refused
+from ._application import PERSON, Application
 
-from ._exchange import Exchange
-from ._files import page_files
-from ._po import PoFault, edits_in, po_of
-
-LARGEST = 64 * 1024 * 1024
 # Seconds for which a connection may be silent.
 LONGEST_SILENCE = 60
-# (bytes of an answer below which gzip is of no use)
-LEAST_PACKED = 1024
-POLICY = (
-    "default-src 'none'; script-src 'self' 'wasm-unsafe-eval'; style-src 'self'; img-src 'self';"
-    " connect-src 'self'; worker-src 'self'; base-uri 'none'; form-action 'none';"
-    " frame-ancestors 'none'"
-)
-ON_ALL = {
-    "Content-Security-Policy": POLICY,
-    "X-Frame-Options": "DENY",
-    "X-Content-Type-Options": "nosniff",
-    "Referrer-Policy": "no-referrer",
-    "Cross-Origin-Opener-Policy": "same-origin",
-    "Cross-Origin-Resource-Policy": "same-origin",
-}
-# By which a page knows that it was this server that answered, and no page of a network.
-EXCHANGE = "Silkwaram-Exchange"
-JSON, PO = "application/json", "text/x-gettext-translation"
-
-Answer = Tuple[bytes, Optional[str]]
 
 
-class Fault(Exception):
-    """Why a request of an exchange is not done: a status, and words."""
+class Body(io.RawIOBase):
+    """The body of a request, of which no more than its length is read."""
 
-    def __init__(self, status: HTTPStatus, words: str) -> None:
-        super().__init__(words)
-        self.status = status
+    def __init__(self, file: Any, length: int) -> None:
+        self._file, self.left = file, length
+
+    def read(self, size: int = -1) -> bytes:
+        """Reads so many bytes, or all that are left."""
+        wanted = self.left if size < 0 else min(size, self.left)
+        made: bytes = self._file.read(wanted)
+        self.left -= len(made)
+        return made
 
 
 class Handler(http.server.BaseHTTPRequestHandler):
@@ -56,185 +34,64 @@ class Handler(http.server.BaseHTTPRequestHandler):
     server: "EditorServer"
 
     def do_GET(self) -> None:
-        """Answers a file of the page, or the summary."""
-        if not self.is_for_us():
-            return
-        path = self.path.partition("?")[0]
-        asked = {"/summary": self.server.exchange.summary, "/po": self.po}.get(path)
-        if asked is not None:
-            self.exchange(asked, PO if path == "/po" else JSON)
-            return
-        file = self.server.files.get(path[1:] or "index.html")
-        if file is None:
-            self.fail(Fault(HTTPStatus.NOT_FOUND, "there is nothing at this address"))
-        elif self.headers.get("If-None-Match") == file.tag:
-            self.send(HTTPStatus.NOT_MODIFIED, None, b"", {"ETag": file.tag})
-        else:
-            packed = file.packed if self.takes_gzip() else None
-            self.send(HTTPStatus.OK, file.kind, file.content, {"ETag": file.tag}, packed)
-
-    do_HEAD = do_GET
-
-    def do_POST(self) -> None:
-        """Takes a delta, or answers a summary with one."""
-        if not self.is_for_us():
-            return
-        path = self.path.partition("?")[0]
-        calls = {
-            "/summary": self.server.exchange.delta_for,
-            "/delta": self.take,
-            "/po": self.take_po,
+        """Has the application answer."""
+        path, _, query = self.path.partition("?")
+        length = self.headers.get("Content-Length") or "0"
+        is_plain = length.isascii() and length.isdecimal() and len(length) < 19
+        body = Body(self.rfile, int(length) if is_plain else 0)
+        environ = {
+            "REQUEST_METHOD": self.command,
+            "SCRIPT_NAME": "",
+            "PATH_INFO": unquote(path, "latin-1"),
+            "QUERY_STRING": query,
+            "SERVER_NAME": self.server.server_name,
+            "SERVER_PORT": str(self.server.server_port),
+            "SERVER_PROTOCOL": self.request_version,
+            "CONTENT_TYPE": self.headers.get("Content-Type", ""),
+            "CONTENT_LENGTH": self.headers.get("Content-Length", ""),
+            "wsgi.version": (1, 0),
+            "wsgi.url_scheme": "http",
+            "wsgi.input": body,
+            "wsgi.multithread": True,
+            "wsgi.multiprocess": False,
+            "wsgi.run_once": False,
         }
-        asked = calls.get(path)
-        try:
-            if asked is None:
-                raise Fault(HTTPStatus.NOT_FOUND, "there is nothing at this address")
-            # (before the body is read: who has no key sends none in vain)
-            self.check_key()
-            body = self.body(PO if path == "/po" else JSON)
-        except Fault as fault:
+        for name, value in self.headers.items():
+            environ.setdefault("HTTP_" + name.upper().replace("-", "_"), value)
+        made = self.server.application(environ, self._begin)
+        # (what nobody read of a body would be taken for the next request)
+        if body.left or not is_plain or "Transfer-Encoding" in self.headers:
             self.close_connection = True
-            self.fail(fault)
-            return
-        self.exchange(lambda: asked(body))
-
-    def take(self, delta: bytes) -> Answer:
-        """Takes a delta, and says which states the site had before and after."""
-        before, after = self.server.exchange.take(delta)
-        return json.dumps({"before": before, "after": after}).encode() + b"\n", after
-
-    def is_for_us(self) -> bool:
-        """Whether a request is for this server, and of no page of another one."""
-        server = self.server
-        words = None
-        # (a name of another that leads to this machine would let its pages in; a key does not)
-        if server.token is None and self.headers.get("Host") not in server.names:
-            words = f"this server is {' and '.join(sorted(server.names))}"
-        elif self.headers.get("Sec-Fetch-Site", "none") not in ("same-origin", "none"):
-            # (a link of another page to this one is followed)
-            if self.headers.get("Sec-Fetch-Mode") != "navigate" or self.command == "POST":
-                words = "no page of another server may ask this one"
-        if words is None:
-            return True
-        self.close_connection = True
-        self.fail(Fault(HTTPStatus.MISDIRECTED_REQUEST, words))
-        return False
-
-    def check_key(self) -> None:
-        token = self.server.token
-        if token is None:
-            return
-        given = self.headers.get("Authorization", "").encode("latin-1", "replace")
-        if not hmac.compare_digest(given, f"Bearer {token}".encode()):
-            raise Fault(HTTPStatus.UNAUTHORIZED, "the key of this server is wanted")
-
-    def languages(self) -> Tuple[str, str]:
-        """The language and the source that the address of a PO file names."""
-        asked = parse_qs(self.path.partition("?")[2])
-        try:
-            return asked["lang"][0], asked["source"][0]
-        except KeyError:
-            raise Fault(HTTPStatus.BAD_REQUEST, "/po?lang=LANG&source=LANG is wanted") from None
-
-    def po(self) -> Answer:
-        """The PO file of a language."""
-        lang, source = self.languages()
-        return po_of(self.server.exchange.document(), lang, source), None
-
-    def take_po(self, po: bytes) -> Answer:
-        """Takes what is translated in a PO file, and says what is left out."""
-        lang, source = self.languages()
-        exchange = self.server.exchange
-        old, new, said = edits_in(exchange.document(), po, lang, source)
-        exchange.update(old, new)
-        return json.dumps({"misfits": said}).encode() + b"\n", None
-
-    def body(self, kind: str) -> bytes:
-        """The body of a request, which has to be of a type and of a stated length."""
-        # (a page of another server cannot send these types without asking first)
-        if self.headers.get_content_type() != kind:
-            raise Fault(HTTPStatus.UNSUPPORTED_MEDIA_TYPE, f"{kind} is wanted")
-        length = self.headers.get("Content-Length", "")
-        if not (length.isascii() and length.isdecimal()):
-            raise Fault(HTTPStatus.LENGTH_REQUIRED, "a Content-Length is wanted")
-        if len(length) > 9 or int(length) > LARGEST:
-            raise Fault(HTTPStatus.REQUEST_ENTITY_TOO_LARGE, f"{LARGEST} bytes are the most")
-        body = self.rfile.read(int(length))
-        if len(body) < int(length):
-            raise Fault(HTTPStatus.BAD_REQUEST, "the body ended early")
-        return body
-
-    def exchange(self, run: Callable[[], Answer], kind: str = JSON) -> None:
-        """Answers a request of an exchange."""
-        try:
-            self.check_key()
-            wanted = self.headers.get("If-None-Match")
-            if wanted and self.command != "POST" and self.server.exchange.tag() == wanted:
-                self.send(HTTPStatus.NOT_MODIFIED, None, b"", {"ETag": wanted, EXCHANGE: "1"})
-                return
-            made, tag = run()
-        except Fault as fault:
-            self.fail(fault)
-        except PoFault as fault:
-            self.fail(Fault(HTTPStatus.UNPROCESSABLE_ENTITY, str(fault)))
-        except Refused as refused:
-            words = str(refused).partition(": ")[2]
-            self.fail(Fault(HTTPStatus.UNPROCESSABLE_ENTITY, words), number=refused.number)
-        except TimeoutError:
-            self.fail(Fault(HTTPStatus.SERVICE_UNAVAILABLE, "the file of the site is in use"))
-        except (OSError, MemoryError) as fault:
-            print(f"silkwaram.editor: {fault!r}", file=sys.stderr, flush=True)
-            self.fail(Fault(HTTPStatus.INTERNAL_SERVER_ERROR, "the file of the site has a fault"))
-        else:
-            worth = len(made) >= LEAST_PACKED and self.takes_gzip()
-            packed = gzip.compress(made, 1) if worth else None
-            heads = {EXCHANGE: "1", **({"ETag": tag} if tag else {})}
-            self.send(HTTPStatus.OK, kind, made, heads, packed)
-
-    def fail(self, fault: Fault, **more: int) -> None:
-        """Says why a request is not done."""
-        words = json.dumps({"words": str(fault), **more}).encode() + b"\n"
-        heads = {EXCHANGE: "1"}
-        if fault.status == HTTPStatus.UNAUTHORIZED:
-            heads["WWW-Authenticate"] = "Bearer"
-        self.send(fault.status, JSON, words, heads)
-
-    def takes_gzip(self) -> bool:
-        return "gzip" in self.headers.get("Accept-Encoding", "")
-
-    def send(
-        self,
-        status: HTTPStatus,
-        kind: Optional[str],
-        content: bytes,
-        heads: Dict[str, str],
-        packed: Optional[bytes] = None,
-    ) -> None:
-        """Sends an answer, packed where it is given so."""
-        body = content if packed is None else packed
-        self.send_response(status)
-        if kind:
-            self.send_header("Content-Type", kind)
-        if status != HTTPStatus.NOT_MODIFIED:
-            self.send_header("Content-Length", str(len(body)))
-        if packed is not None:
-            self.send_header("Content-Encoding", "gzip")
-        self.send_header("Vary", "Accept-Encoding")
-        self.send_header("Cache-Control", "no-cache")
-        for name, value in {**ON_ALL, **heads}.items():
-            self.send_header(name, value)
-        if self.close_connection:
             self.send_header("Connection", "close")
         self.end_headers()
-        if self.command != "HEAD" and status != HTTPStatus.NOT_MODIFIED:
-            self.wfile.write(body)
+        for it in made:
+            self.wfile.write(it)
+        self._log(environ.get(PERSON, "-"), sum(map(len, made)))
 
-    def version_string(self) -> str:
-        """What the header Server says."""
-        return "silkwaram"
+    do_HEAD = do_POST = do_GET
+
+    def _begin(self, status: str, heads: List[Tuple[str, str]]) -> None:
+        """Keeps the head of an answer, which is sent once it is known how the connection goes
+        on."""
+        number, _, phrase = status.partition(" ")
+        self._status = number
+        self.send_response_only(int(number), phrase)
+        self.send_header("Server", "silkwaram")
+        for name, value in heads:
+            self.send_header(name, value)
+
+    def _log(self, person: object, size: int) -> None:
+        """Adds a line to the access log, in the common form, with the name of the person."""
+        log = self.server.access_log
+        if log is None:
+            return
+        when = time.strftime("%d/%b/%Y:%H:%M:%S +0000", time.gmtime())
+        line = "".join(it if it.isprintable() and it != '"' else "?" for it in self.requestline)
+        host = self.client_address[0]
+        print(f'{host} - {person} [{when}] "{line}" {self._status} {size}', file=log, flush=True)
 
     def log_message(self, *_: object) -> None:
-        """Says nothing of requests, which hold no more than edits do."""
+        """Says nothing of connections: what is answered is in the access log."""
 
 
 class EditorServer(http.server.ThreadingHTTPServer):
@@ -249,20 +106,28 @@ class EditorServer(http.server.ThreadingHTTPServer):
         host: str = "localhost",
         port: int = 8080,
         token: Optional[str] = None,
+        tokens: Optional[str] = None,
+        access_log: Optional[TextIO] = None,
     ) -> None:
         """Listens on an address. A file that is not there becomes the empty site of the name."""
-        self.token = token
-        self.files = page_files()
-        self.exchange = Exchange(path, name)
         if ":" in host:
             self.address_family = socket.AF_INET6
-        super().__init__((host, port), Handler)
-        shown = f"[{host}]" if ":" in host else host
-        self.address = f"http://{shown}:{self.server_port}/"
-        names = ("localhost", "127.0.0.1", "[::1]", shown)
-        self.names = {f"{it}:{self.server_port}" for it in names}
-        if self.server_port == 80:
-            self.names |= set(names)
+        super().__init__((host, port), Handler, bind_and_activate=False)
+        try:
+            # (a port that is taken leaves no file)
+            self.server_bind()
+            shown = f"[{host}]" if ":" in host else host
+            self.address = f"http://{shown}:{self.server_port}/"
+            names = ("localhost", "127.0.0.1", "[::1]", shown)
+            known = {f"{it}:{self.server_port}" for it in names}
+            if self.server_port == 80:
+                known |= set(names)
+            self.application = Application(path, name, token, tokens, known)
+            self.access_log = access_log
+            self.server_activate()
+        except BaseException:
+            self.server_close()
+            raise
 
     def handle_error(self, *_: object) -> None:
         """Says nothing of connections that end early."""

@@ -9,7 +9,7 @@ register = template.Library()
 
 
 class Text(str):
-    """A text with its language, for `lang=".."`; both are empty where there is none."""
+    """A text with its language, for `lang=".."`; both are empty if there is none."""
 
     language = ""
 

@@ -17,6 +17,7 @@ export const app = {
     page: null,
     language: null,
     source: null,
+    isGuess: false,
     field: null,
     otherwise: null,
     widen: false,
@@ -119,10 +120,13 @@ export function tried(run) {
   }
 }
 
-/** Asks what to do. Answers the word that was chosen, or null. */
-export function ask(text, words) {
+/**
+ * Asks what to do, with a list of what it is about. Answers the word that was chosen, or null.
+ */
+export function ask(text, words, listed = []) {
   const dialog = $('ask-dialog');
   $('ask-text').textContent = text;
+  $('ask-list').replaceChildren(...listed);
   dialog.returnValue = '';
   const buttons = words.map((word, at) =>
     made('button', { value: word, textContent: say(word), className: at === 0 ? 'main' : '' }));

@@ -36,7 +36,13 @@ function fillWords() {
 /** Goes on with a work: shows it, keeps it and exchanges. */
 function useWork(work, isKept = false) {
   app.work = work;
-  work.onEdit = (key, row) => app.keeper.edit(key, row);
+  work.onEdit = (key, row) => {
+    // (who edits is at home in the languages that are shown)
+    app.state.isGuess = false;
+    app.keeper.edit(key, row);
+  };
+  work.onMany = () => page.joined();
+  work.onCame = () => app.keeper.came(work.came);
   const waits = new Map();
   work.onDraft = (key, draft) => {
     clearTimeout(waits.get(key));
@@ -56,15 +62,18 @@ function useSite(site) {
   useWork(new Work(app.sw, site, app.clock));
 }
 
-// The language to edit, and that beside it, where none was chosen.
+// The language to edit, and that beside it, where none was chosen. A site without labels says
+// nothing of that, so they are chosen once more when labels come.
 function chooseLanguages() {
   const tags = app.work.labels.languages().map(([tag]) => tag);
   const reader = navigator.languages.join(', ');
   const own = withoutRegion(navigator.language);
   const first = tags[0] ?? own;
   const { state } = app;
+  if (state.isGuess && tags.length > 0) Object.assign(state, { source: null, language: null });
+  state.isGuess = tags.length === 0;
   state.source ??= app.sw.pick(reader, tags, { default: first, lenient: true }) ?? first;
-  state.language ??= tags.find((it) => it !== state.source) ?? state.source;
+  state.language ??= [...tags, own].find((it) => it !== state.source) ?? state.source;
   state.field ??= reader;
   state.otherwise ??= state.source;
 }
@@ -94,7 +103,8 @@ const page = {
   /** Labels came by an exchange. */
   came() {
     app.keeper.all();
-    showAnew();
+    if (app.state.isGuess) showWork();
+    else showAnew();
   },
   /** Labels came by a file: what is to be sent is not known one by one. */
   joined() {
@@ -142,7 +152,7 @@ function listen() {
   $('open-keys').onclick = openKeys;
   $('undo').onclick = undo;
   const choose = (name, tag) => {
-    app.state = { ...app.state, [name]: tag };
+    app.state = { ...app.state, [name]: tag, isGuess: false };
     showLanguages();
     showCounts();
     relist();
@@ -198,7 +208,7 @@ function draftsOf(kept) {
 }
 
 // The work as it was kept: the document, and the edits since it was written.
-function workOf({ site: document, edits, unsent, drafts }) {
+function workOf({ site: document, came, edits, unsent, drafts }) {
   const site = app.sw.Site.open(document);
   const { site: name } = site.status();
   for (const row of edits.values()) {
@@ -207,6 +217,7 @@ function workOf({ site: document, edits, unsent, drafts }) {
   const work = new Work(app.sw, site, app.clock);
   work.unsent = unsent;
   work.drafts = draftsOf(drafts);
+  work.came = came ?? [];
   return work;
 }
 
@@ -224,7 +235,8 @@ async function openKeeper() {
   const drafts = () => [...app.work.drafts].flatMap(([key, typed]) =>
     [...typed].map(([place, draft]) => [keyOf(...JSON.parse(key), place), draft]));
   app.keeper = new Keeper(store, () => ({
-    site: app.work.site.toBytes(), state: app.state, unsent: app.work.unsent, drafts: drafts(),
+    site: app.work.site.toBytes(), state: app.state, came: app.work.came,
+    unsent: app.work.unsent, drafts: drafts(),
   }));
   app.keeper.onChange = () => {
     showState();

@@ -23,11 +23,12 @@ function problemOf(answer, text) {
   const isOurs = answer.headers.get(HEADER) !== null;
   const { status } = answer;
   if (answer.type === 'opaqueredirect' || answer.redirected) return new Problem('portal');
-  if (status === 401 || status === 403 || status === 407) return new Problem('key');
+  if (status === 401 || status === 407 || (status === 403 && !isOurs)) return new Problem('key');
   if (status === 413) return new Problem('large');
   if (status >= 500 || status === 429) return new Problem('broken', status);
   if (!isOurs) return new Problem(status === 404 || status === 405 ? 'none' : 'portal', status);
-  if (status !== 422) return new Problem(status === 404 ? 'none' : 'broken', status);
+  // (403: a language of the delta is not that of who has the key)
+  if (status !== 422 && status !== 403) return new Problem(status === 404 ? 'none' : 'broken', status);
   try {
     const { number, words } = JSON.parse(text);
     return Object.assign(new Problem('refused', words), { number });
@@ -92,8 +93,8 @@ async function sendEdits(way, work) {
 
 /**
  * Exchanges a site with the server. `way` has its key, what it was known to have (`tag`, `owner`),
- * and the clock. Answers how many cells were sent and received, which edits are sent, and how many
- * were left out as too late.
+ * and the clock. Answers how many cells were sent and received, how many of these took the place of
+ * one that was written here, which edits are sent, and how many were left out as too late.
  */
 export async function exchange(way, work) {
   let made;
@@ -105,9 +106,9 @@ export async function exchange(way, work) {
     way.tag = null;
     made = await sendAll(way, work);
   }
-  if (made.isAll) return { ...made, received: 0, lateOfOthers: 0 };
+  if (made.isAll) return { ...made, received: 0, overridden: 0, lateOfOthers: 0 };
   const { text, tag } = await ask(way, 'summary', { method: 'POST', body: work.site.summary() });
-  const { received, late } = work.take(text);
+  const { received, overridden, late } = work.take(text);
   way.tag = tag;
-  return { ...made, received, lateOfOthers: late };
+  return { ...made, received, overridden, lateOfOthers: late };
 }

@@ -92,8 +92,9 @@ export async function exchangeNow(isAsked) {
     const isBack = exchanged.problem !== null;
     exchanged.problem = null;
     app.state = { ...app.state, last: Date.now(), heard: app.clock.heard };
-    const { sent, received, lateOfOthers } = made;
-    if (isAsked || isBack || received > 0) notice(say('exchangedNow', { sent, received }));
+    const { sent, received, overridden, lateOfOthers } = made;
+    if (overridden > 0) notice(say('overridden', { count: overridden }));
+    else if (isAsked || isBack || received > 0) notice(say('exchangedNow', { sent, received }));
     if (received > 0) page.came();
     else app.keeper.state(app.state);
     hideProblem('exchange');

@@ -1,8 +1,14 @@
 // Files that are saved and taken: sites, language maps, PO files; and a site that begins anew.
-import { $, app, ask, hideProblem, notice, say, setText, showProblem, whyOf } from './app.mjs';
+import {
+  $, app, ask, hideProblem, languageName, made, notice, say, setText, showProblem, whyOf,
+} from './app.mjs';
 
 const PO = 'text/x-gettext-translation';
 const LARGEST = 64 * 1024 * 1024;
+// The member of language maps that says which of those that went out they are. (A reader of
+// language maps passes over a name that begins with "@".)
+const SENT = '@sent';
+const MOST_LISTED = 200;
 
 export function save(name, content, type = 'application/json') {
   const link = document.createElement('a');
@@ -55,30 +61,60 @@ async function openSite(bytes, page) {
     }
   }
   if (choice === 'takeIn') {
-    const { received, late } = app.work.join(opened);
+    const { received, overridden, late } = app.work.join(opened);
     page.joined();
     $('files-dialog').close();
-    notice(
-      [say('taken', { received }), late > 0 ? say('lateOfOthers', { count: late }) : ''].join(' '));
+    notice([
+      say('taken', { received }),
+      overridden > 0 ? say('overridden', { count: overridden }) : '',
+      late > 0 ? say('lateOfOthers', { count: late }) : '',
+    ].filter(Boolean).join(' '));
   }
   opened.close();
   return undefined;
 }
 
-// Takes language maps. What is equal stays as it is, so that its stamps do too.
-function takeMaps(bytes, page) {
+async function saveMaps() {
+  const text = JSON.stringify(app.work.site.export(), null, 1);
+  const id = `${app.work.name}-${Date.now()}`;
+  await app.keeper.maps(id, text);
+  save(`${app.work.name}-labels.json`, `{ ${JSON.stringify(SENT)}: ${JSON.stringify(id)}${
+    text === '{}' ? '' : ','}${text.slice(1)}`);
+}
+
+// The language maps as they went out which come back by now, or null where they are not known.
+function mapsAsSent(text) {
+  let id = null;
+  try {
+    id = JSON.parse(text)[SENT];
+  } catch {
+    // (what is no JSON is refused where it is taken)
+  }
+  return typeof id === 'string' ? app.keeper.mapsOf(id) : null;
+}
+
+function changeLine({ id, language, before, after }) {
+  const textOf = (texts) => made('bdi', { textContent: texts.join('\n') || say('nothing') });
+  const name = made('b', {}, made('bdi', { textContent: id }), `, ${languageName(language)}`);
+  return made('li', {}, name, made('del', {}, textOf(before)), made('ins', {}, textOf(after)));
+}
+
+// Takes language maps: what was edited in them since they went out. Where that is not known it is
+// shown what would change, and asked.
+async function takeMaps(bytes, page) {
   const text = new TextDecoder('utf-8', { fatal: true }).decode(bytes);
   const { work } = app;
-  const trial = app.sw.Site.open(work.site.toBytes());
-  trial.importMaps(text, { now: app.clock.now() });
-  const isOther = ({ before, after }) =>
-    JSON.stringify(before?.texts) !== JSON.stringify(after?.texts);
-  const changed = work.site.changes(trial).filter(isOther);
-  trial.close();
-  work.importLabels(changed.map(({ id, language, after }) => [id, language, after.texts]));
-  page.joined();
+  const sent = await mapsAsSent(text);
+  const changes = work.changesOf(text, sent);
   $('files-dialog').close();
-  notice(say('taken', { received: changed.length }));
+  if (changes.length === 0) return notice(say('nothingNew'));
+  if (sent === null) {
+    const listed = changes.slice(0, MOST_LISTED).map(changeLine);
+    const question = say('wouldChange', { count: changes.length });
+    if ((await ask(question, ['close', 'takeIn'], listed)) !== 'takeIn') return undefined;
+  }
+  const taken = work.takeIn(text, sent);
+  return notice(say('taken', { received: taken.length }));
 }
 
 function poAddress() {
@@ -147,8 +183,7 @@ function beginAnew(page) {
 export function beginFiles(page) {
   $('open-files').onclick = openFiles;
   $('save-site').onclick = saveSite;
-  $('save-maps').onclick = () =>
-    save(`${app.work.name}-labels.json`, JSON.stringify(app.work.site.export(), null, 1));
+  $('save-maps').onclick = () => saveMaps().catch((error) => showProblem(whyOf(error)));
   $('begin-anew').onclick = () => beginAnew(page);
   for (const input of document.querySelectorAll('.open-site'))
     onFile(input, (bytes) => openSite(bytes, page));

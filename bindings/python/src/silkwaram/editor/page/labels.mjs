@@ -19,12 +19,6 @@ export function isSame(one, other) {
   return one.length === other.length && one.every((text, at) => text === other[at]);
 }
 
-function isLater(one, other) {
-  if (one.time !== other.time) return one.time > other.time;
-  if (one.site !== other.site) return one.site > other.site;
-  return one.count > other.count;
-}
-
 export class Labels {
   #messages = new Map();
   #counts = new Map();
@@ -91,10 +85,13 @@ export class Labels {
     return !this.cellOf(id, language)?.texts;
   }
 
-  /** Whether a translation is older than its source. */
+  /**
+   * Whether a translation is older than its source, by their times alone, as the command `outdated`
+   * has it: an import gives all of its labels one time.
+   */
   isOutdated(id, language, source) {
     const [own, beside] = [this.cellOf(id, language), this.cellOf(id, source)];
-    return language !== source && Boolean(own?.texts && beside?.texts) && isLater(beside, own);
+    return language !== source && Boolean(own?.texts && beside?.texts) && beside.time > own.time;
   }
 
   /** The notes of a message for the translators into a language. */

@@ -1,5 +1,5 @@
 // Placeholders of programs in texts, and how those of a translation differ from its source's. The
-// companion lexicat-check has the same rules, and companions/tests/check/placeholders.t compares
+// program lexicat-check has the same rules, and tests/tools/check/placeholders.t of the package compares
 // the two: whoever changes one changes the other. (What repeats is bounded, so that no text takes
 // long.)
 

@@ -1,11 +1,14 @@
 // What the browser keeps of the site, in IndexedDB: its document, the edits since that was written,
-// those that are to be sent, what is being typed, and the state of the page.
+// those that are to be sent, what is being typed, what came from others, the language maps that went
+// out, and the state of the page.
 
 const NAME = 'silkwaram-labels';
 const LOCK = 'silkwaram-labels';
 const STORES = ['kept', 'edits', 'unsent', 'drafts'];
 // Edits that are kept one by one before the document is written anew.
 const MOST_EDITS = 200;
+// Language maps that went out and are kept, to know what of them was edited when they come back.
+const MOST_SENT = 12;
 
 function done(request) {
   return new Promise((resolve, reject) => {
@@ -43,14 +46,20 @@ class Store {
       return new Map(keys.map((key, at) => [key, values[at]]));
     };
     const kept = reading.objectStore('kept');
-    const [site, state, edits, unsent, drafts] = await Promise.all([
+    const [site, state, came, edits, unsent, drafts] = await Promise.all([
       done(kept.get('site')),
       done(kept.get('state')),
+      done(kept.get('came')),
       entries('edits'),
       entries('unsent'),
       entries('drafts'),
     ]);
-    return { site, state, edits, unsent, drafts };
+    return { site, state, came, edits, unsent, drafts };
+  }
+
+  /** The language maps that went out, the latest last, each `{ id, text }`. */
+  async readSent() {
+    return (await done(this.database.transaction(['kept']).objectStore('kept').get('sent'))) ?? [];
   }
 
   /** Does all of it or nothing, and ends once that is on its way to the disk. */
@@ -78,6 +87,7 @@ export class Keeper {
   isUnsaved = false;
   #running = 0;
   #edits = 0;
+  #sent = [];
 
   constructor(store, snapshot) {
     this.store = store;
@@ -131,15 +141,38 @@ export class Keeper {
     return this.#write((store) => store('kept').put(state, 'state'));
   }
 
+  /** Keeps what came from others. */
+  came(came) {
+    return this.#write((store) => store('kept').put(came, 'came'));
+  }
+
+  /** Keeps language maps that go out, under an id; of the oldest of many nothing is kept. */
+  async maps(id, text) {
+    const sent = await this.mapsSent();
+    sent.push({ id, text });
+    this.#sent = sent.slice(-MOST_SENT);
+    return this.#write((store) => store('kept').put(this.#sent, 'sent'));
+  }
+
+  /** The language maps that went out under an id, or null. */
+  async mapsOf(id) {
+    return (await this.mapsSent()).find((it) => it.id === id)?.text ?? null;
+  }
+
+  async mapsSent() {
+    return this.store ? this.store.readSent() : this.#sent;
+  }
+
   /** Keeps all anew. */
   all() {
     if (!this.store) return undefined;
-    const { site, state, unsent, drafts } = this.snapshot();
+    const { site, state, came, unsent, drafts } = this.snapshot();
     this.#edits = 0;
     return this.#write((store) => {
       for (const it of STORES.slice(1)) store(it).clear();
       store('kept').put(site, 'site');
       store('kept').put(state, 'state');
+      store('kept').put(came, 'came');
       for (const [key, row] of unsent) store('unsent').put(row, key);
       for (const [key, draft] of drafts) store('drafts').put({ ...draft }, key);
     }, true);

@@ -3,6 +3,7 @@ import { app, languageName, made, say, setText } from './app.mjs';
 import { FLAGS } from './labels.mjs';
 import { attributeOf, directionOf } from './languages.mjs';
 import { differencesAt, isCompared } from './placeholders.mjs';
+import { shownKind } from './view_tools.mjs';
 
 const hasSizing = CSS.supports('field-sizing', 'content');
 let numbers = 0;
@@ -39,7 +40,8 @@ function actionOf(word, run, keys) {
 }
 
 /**
- * A row for a message. `does` is what a row is for: type, leave, key, confirm, copy, remove, more.
+ * A row for a message. `does` is what a row is for: type, leave, key, confirm, copy, remove, more,
+ * putBack.
  */
 export function makeRow(id, does) {
   const number = (numbers += 1);
@@ -58,6 +60,7 @@ export function makeRow(id, does) {
     made(
       'div', { className: 'translation' },
       made('div', { className: 'writing' }, made('div', { className: 'texts' }), others),
+      made('div', { className: 'former', hidden: true }),
       made(
         'div', { className: 'row-actions' },
         made('div', { className: 'said' }, line('warning'), line('mark'), line('who')),
@@ -109,6 +112,28 @@ function showOthers(row, count) {
       made('bdi', { textContent: other || say('nothing'), lang: attributeOf(language) }),
       made('small', { textContent: say('otherHint') }));
   }));
+  // (below the fields that one is at it could be under the foot of the page)
+  if (others.length > 0 && row.contains(document.activeElement))
+    box.scrollIntoView({ block: 'nearest' });
+}
+
+// Shows, where what came from others is listed, the text in whose place it came.
+function showFormer(row) {
+  const { language } = app.state;
+  const box = row.querySelector('.former');
+  const came = shownKind() === 'came' ? app.work.cameAt(row.label, language) : null;
+  const isThere = came !== null && came.before.length > 0;
+  const shown = isThere ? JSON.stringify([app.state.page, came]) : '';
+  box.hidden = !isThere;
+  if (box.shown === shown) return;
+  box.shown = shown;
+  if (!isThere) return;
+  const isMine = came.was === app.work.name;
+  const button = actionOf(isMine ? 'takeMine' : 'putBack', () => row.does.putBack(row), '');
+  button.removeAttribute('aria-keyshortcuts');
+  box.replaceChildren(
+    made('b', { textContent: say(isMine ? 'mineWas' : 'theirsWas', { who: came.was }) }),
+    made('bdi', { textContent: came.before.join('\n'), lang: attributeOf(language) }), button);
 }
 
 /** What is wrong with the placeholders of the fields of a message, in words. */
@@ -200,6 +225,7 @@ export function updateRow(row) {
   showSource(row, shown, beside);
   const note = labels.notesOf(id, language).join('\n');
   setText(row.querySelector('.note'), note);
+  showFormer(row);
   updateMarks(row);
   for (const it of row.querySelectorAll('button')) {
     const known = { id, language: languageName(language) };

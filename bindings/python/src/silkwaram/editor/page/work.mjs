@@ -22,12 +22,19 @@ export class Work {
   drafts = new Map();
   /** The edits that can be taken back, the latest last. */
   done = [];
-  /** The labels that came from others, the latest first, with what was there before. */
+  /**
+   * The labels that came from others, the latest first, each with the texts that were there before
+   * and who had written these.
+   */
   came = [];
   /** What is called after an edit: its cell, as text, by its key. */
   onEdit = () => {};
   /** What is called where a draft changes: its key, and it or null. */
   onDraft = () => {};
+  /** What is called after many edits at once, which are sent by a full exchange. */
+  onMany = () => {};
+  /** What is called where what came changed. */
+  onCame = () => {};
 
   /** What is known of the server that it is exchanged with. */
   way = null;
@@ -56,14 +63,14 @@ export class Work {
     const after = texts.every((text) => text === '') ? [] : texts;
     if (isSame(before, after)) return false;
     this.#put(id, language, after);
-    if (!isUndone) this.#remember({ id, labels: [{ language, before, after }] });
+    if (!isUndone) this.#remember({ id, labels: [{ id, language, before, after }] });
     return true;
   }
 
   /** Deletes a message: all its labels and notes, which is one edit to take back. */
   removeMessage(id) {
     const labels = this.labels.languagesOf(id)
-      .map((language) => ({ language, before: this.labels.textsOf(id, language), after: [] }));
+      .map((language) => ({ id, language, before: this.labels.textsOf(id, language), after: [] }));
     for (const { language } of labels) {
       this.discard(id, language);
       this.#put(id, language, []);
@@ -97,20 +104,55 @@ export class Work {
   }
 
   /**
-   * Puts many labels at once, each a message, a language and its texts. They are sent by a full
-   * exchange.
+   * Takes in a file that came back: makes the edits that lead from the language maps that went out
+   * to those that came, both as text. Without those that went out each label that came is put that
+   * is another one here. Answers the labels that were changed, each with its texts before and after;
+   * all of them are one edit to take back.
    */
-  importLabels(labels) {
+  takeIn(maps, sent = null) {
+    const changed = this.changesOf(maps, sent);
+    if (changed.length === 0) return changed;
+    this.#setMany(changed.map(({ id, language, after }) => [id, language, after]));
+    this.#remember({ id: null, labels: changed });
+    return changed;
+  }
+
+  /** What `takeIn` would change. */
+  changesOf(maps, sent = null) {
+    const trial = this.sw.Site.open(this.site.toBytes());
+    try {
+      const options = { now: this.clock.now() };
+      if (sent === null) trial.importMaps(maps, options);
+      else trial.update(sent, maps, options);
+      return this.site.changes(trial)
+        .map(({ id, language, before, after }) =>
+          ({ id, language, before: before?.texts ?? [], after: after?.texts ?? [] }))
+        .filter(({ before, after }) => !isSame(before, after));
+    } finally {
+      trial.close();
+    }
+  }
+
+  // Gives many labels their texts, each a message, a language and texts; none delete it.
+  #setMany(labels) {
     const messages = new Map();
     for (const [id, ...label] of labels) messages.set(id, [...(messages.get(id) ?? []), label]);
     // (as text, as an id may be `__proto__`)
-    const maps = [...messages].map(([id, them]) => {
-      const inside =
-        them.map(([language, texts]) => `${JSON.stringify(language)}:${JSON.stringify(texts)}`);
-      return `${JSON.stringify(id)}:{${inside.join(',')}}`;
-    });
-    this.site.importMaps(`{${maps.join(',')}}`, { now: this.clock.now() });
+    const mapsOf = (textsOf) => {
+      const maps = [...messages].map(([id, them]) => {
+        const inside = them.flatMap(([language, texts]) => {
+          const it = textsOf(id, language, texts);
+          return it.length === 0 ? [] : [`${JSON.stringify(language)}:${JSON.stringify(it)}`];
+        });
+        return `${JSON.stringify(id)}:{${inside.join(',')}}`;
+      });
+      return `{${maps.join(',')}}`;
+    };
+    this.site.update(
+      mapsOf((id, language) => this.labels.textsOf(id, language)),
+      mapsOf((id, language, texts) => texts), { now: this.clock.now() });
     this.reread();
+    this.onMany();
   }
 
   #remember(edit) {
@@ -120,18 +162,22 @@ export class Work {
 
   /**
    * Takes back the last edit, or says that it was not: `null` where there is none, `changed` where
-   * a label is another one by now.
+   * a label is another one by now. Of a file that was taken in the labels go back that are still as
+   * it made them; `labels` are these.
    */
   undo() {
     const edit = this.done.pop();
     if (!edit) return null;
-    const { id, labels } = edit;
-    const isOther = labels.some(
-      ({ language, after }) => !isSame(this.labels.textsOf(id, language), after));
+    const labels = edit.labels.filter(
+      ({ id, language, after }) => isSame(this.labels.textsOf(id, language), after));
+    const isOther = labels.length < edit.labels.length && (edit.id !== null || labels.length === 0);
     if (isOther) return { ...edit, is: 'changed' };
-    for (const { language, before } of labels)
-      this.setTexts(id, language, before, { isUndone: true });
-    return { ...edit, is: 'undone' };
+    if (edit.id === null)
+      this.#setMany(labels.map(({ id, language, before }) => [id, language, before]));
+    else
+      for (const { id, language, before } of labels)
+        this.setTexts(id, language, before, { isUndone: true });
+    return { ...edit, labels, is: 'undone' };
   }
 
   // ---- What is being typed
@@ -243,26 +289,46 @@ export class Work {
   }
 
   /**
-   * Takes a delta for this site but for what is too late. Answers how many labels came, and how
-   * many were too late.
+   * Takes a delta for this site but for what is too late. Answers how many labels came, how many of
+   * them took the place of one that was written here, and how many were too late.
    */
   take(given) {
     const { delta, cells, late } = withoutLate(given, this.clock.limit());
-    if (cells.length === 0) return { received: 0, late };
-    this.site.take(delta);
+    if (cells.length === 0) return { received: 0, overridden: 0, late };
     const came = [];
     // (all of it is new in an empty site)
     const isFirst = this.labels.ids().length === 0;
     for (const [id, language, time, site, , texts] of cells) {
-      const before = this.labels.textsOf(id, language);
+      const held = this.labels.cellOf(id, language);
+      const before = held?.texts ?? [];
       if (!isFirst && !isSame(before, texts ?? []))
-        came.push({ id, language, time, site, before, texts: texts ?? [] });
+        came.push({ id, language, time, site, before, was: held?.site ?? null, texts: texts ?? [] });
     }
+    this.site.take(delta);
     this.reread();
     const keys = new Set(came.map(({ id, language }) => keyOf(id, language)));
     const former = this.came.filter(({ id, language }) => !keys.has(keyOf(id, language)));
     this.came = [...came, ...former].slice(0, MOST_CAME);
-    return { received: cells.length, late };
+    this.onCame();
+    const overridden = came.filter(({ was }) => was === this.name).length;
+    return { received: cells.length, overridden, late };
+  }
+
+  /** What came in place of another text of a message, as long as it is there; or null. */
+  cameAt(id, language) {
+    const found = this.came.find((it) => it.id === id && it.language === language);
+    return found && isSame(this.labels.textsOf(id, language), found.texts) ? found : null;
+  }
+
+  /** Puts the texts back that were there before others came. Whether it is an edit. */
+  putBack(id, language) {
+    const found = this.cameAt(id, language);
+    if (!found) return false;
+    this.discard(id, language);
+    const isEdit = this.setTexts(id, language, found.before);
+    this.came = this.came.filter((it) => it !== found);
+    this.onCame();
+    return isEdit;
   }
 
   /** Takes what another site has that this one lacks. */
@@ -286,6 +352,7 @@ export class Work {
     }
     for (const [key, row] of this.sendable()) work.unsent.set(key, row);
     work.drafts = this.drafts;
+    work.came = this.came;
     return work;
   }
 }

@@ -73,6 +73,13 @@ export const rowActions = {
     afterEdit(id);
     row.querySelector('textarea').focus();
   },
+  putBack(row) {
+    const id = row.label;
+    if (!tried(() => app.work.putBack(id, app.state.language))) return;
+    notice(say('saved', { id, language: languageName(app.state.language) }));
+    afterEdit(id);
+    row.querySelector('textarea').focus();
+  },
   more(row) {
     const id = row.label;
     const at = list.ids.indexOf(id);
@@ -160,6 +167,12 @@ export function undo() {
   if (!tried(() => (undone = app.work.undo()))) return;
   if (undone === null) return;
   const { id, labels, is } = undone;
+  if (id === null) {
+    notice(say(is === 'undone' ? 'takenBack' : 'notTakenBack', { count: labels.length }));
+    relist(false);
+    showState();
+    return;
+  }
   const isOne = labels.length === 1;
   const language = isOne ? languageName(labels[0].language) : say('allLanguages');
   notice(say(is, { id, language }));

@@ -1,0 +1,28 @@
+"""The program lexicat-convert: its name and its help."""
+from .._shared import Program
+
+HELP = """\
+Usage: lexicat-convert FORMAT in [--lang LANG] [FILE..] > MAPS
+       lexicat-convert FORMAT out --lang LANG [MAPS] > FILE
+
+  in     prints language maps of files, as lexicat import reads them
+  out    prints a file of language maps, as lexicat export prints them
+
+Formats: i18next, json (names as they are, and no plurals), arb, android
+(strings.xml), strings, stringsdict and xcstrings (iOS), properties (Java), csv,
+xliff (1.2), xliff2 (2.0) and fluent. PO files are read and written by lexicat-po.
+
+What does not fit is named on standard error with its id, all else is done, and
+the status is 7.
+
+  --lang LANG        the language of the file; for xliff that of the
+                     translations. If a file states it, it need not be given;
+                     csv and xcstrings out have all languages without it
+  --source LANG      for xliff, csv and xcstrings: the language that is translated
+  --domain NAME      what the ids begin with in the maps, before a slash
+  --plurals WORDS    the plural categories of the language, as 'one few other'
+  --flat             for i18next: take keys as they are, with their dots
+  -h, --help         print this
+  --version          print the version
+"""
+PROGRAM = Program("lexicat-convert", HELP)

@@ -1,8 +1,0 @@
-#!/usr/bin/env bash
-# Tries companions/lexicat-po with the catalogues of coreutils in the languages from p to z, as
-# companions/tests/po/coreutils.sh says. It takes and needs what companions/tests/po/site.sh says,
-# and Debian's coreutils with its catalogues.
-cd "$(dirname "$0")/../../.." || exit 1
-. companions/tests/po/coreutils.sh
-of_locales '[p-z]*'
-end
