@@ -11,7 +11,6 @@ Takes build/lexicat, or the command that LEXICAT names. The runs are made at ran
 PUT_BACK_EXCHANGES is how many exchanges are made of each of the two kinds of runs.
 """
 import concurrent.futures
-import json
 import os
 import random
 import subprocess
@@ -22,17 +21,12 @@ sys.dont_write_bytecode = True
 sys.path[:0] = [HERE, f"{HERE}/../lib"]
 import tap  # noqa: E402
 from counting import LEXICAT  # noqa: E402
+from reckoned import clash, document, joined, lacked  # noqa: E402
 
 EXCHANGES = int(os.environ.get("PUT_BACK_EXCHANGES", "5000"))
 NAMES = ("lima", "paris", "tokyo")
 KEYS = [(message, language) for message in ("a", "b", "c") for language in ("de", "en")]
 STEPS = 40
-
-
-def document(cells, **members):
-    rows = [[*key, *cells[key][0], cells[key][1]] for key in sorted(cells)]
-    made = {"cells": rows, **members, "version": 2}
-    return json.dumps(made, sort_keys=True, separators=(",", ":")) + "\n"
 
 
 class Site:
@@ -65,30 +59,8 @@ def first_lacked(name, cells, rows):
     return None
 
 
-def clash(cells, rows):
-    """What is said of the first key whose stamp has two labels, or None."""
-    for place, key in enumerate(sorted(cells)):
-        if key in rows and cells[key][0] == rows[key][0] and cells[key][1] != rows[key][1]:
-            stamp = " ".join(map(str, cells[key][0]))
-            return f"refused 13: stamp {stamp} used twice, cell {place}\n"
-    return None
-
-
 def missing(row, number):
     return f"refused 30: an edit of this site is missing here in row {row} of document {number}\n"
-
-
-def joined(cells, rows):
-    both = dict(cells)
-    for key, cell in rows.items():
-        if key not in both or both[key][0] < cell[0]:
-            both[key] = cell
-    return both
-
-
-def lacked(cells, known):
-    """The cells whose key is not known, or with an older stamp."""
-    return {key: cell for key, cell in cells.items() if key not in known or known[key][0] < cell[0]}
 
 
 def take(taker, rows):

@@ -1,4 +1,10 @@
 -- Each call on documents answers or refuses, and refuses by one fault.
+--
+-- A call refuses in stages: its first document, its second, then both together. Where it answers,
+-- each stage has passed, so none of them refuses (`.._not_refused`). Of two refusals the earlier
+-- stage is the same in both, since a document reads as one value at most; within a stage there is
+-- one fault by CallRefusals. Edits, imports and updates have one stage more, the stamp, of which
+-- there is a next one or none.
 use Rattle.std.proofs.Common.{◌≡◌, ◌∙◌, ℕ, List, [], ◌∷◌, ap, inl, inr, refl, subst, sym}
 use Rattle.std.specs.Prelude.{◌≢◌, ◌⊎◌, Bool, Option}
 use Rattle.std.specs.declared.cmp.Ordering.{Ordering}
@@ -11,7 +17,6 @@ use Rattle.cell_core.specs.declared.stamp.Stamp.{Stamp}
 use Rattle.cell_core.specs.Entry.{EntryKey, key_cmp}
 use Rattle.catalogue.specs.Entries.{Agree, Entries}
 use Rattle.cata_core.specs.Site.{RefusesEdit, SiteState}
-use Rattle.cata_core.specs.Summary.{SummaryState}
 use Rattle.catalogue.specs.declared.cata_fault.CataFault.{CataFault}
 use Rattle.catalogue.specs.declared.cata_fault.CataFault.TheVariants as cata
 use Rattle.cata_core.specs.declared.delta.Delta.{Delta as DeltaState}
@@ -20,10 +25,10 @@ use Rattle.json_docs.specs.Faults.{of_no_document, of_site}
 use Rattle.json_docs.specs.declared.fault.DocFault.{DocFault}
 use Rattle.row_docs.specs.Reading.{IsOfDocument}
 use Rattle.row_docs.specs.declared.kind.Kind.TheVariants as kind
-use Rattle.site_docs.specs.Reading.{ReadsAsDelta, ReadsAsSite, ReadsAsSummary, RefusesDelta}
-use Rattle.site_docs.specs.Reading.{RefusesSite, RefusesSummary}
-use Rattle.site_docs.specs.SiteDocuments.{IsDeltaDocument, IsSummaryDocument, delta_checks}
-use Rattle.site_docs.specs.SiteDocuments.{summary_checks}
+use Rattle.site_docs.specs.Reading.{ReadsAsDelta, ReadsAsSite, RefusesDelta, RefusesSite}
+use Rattle.site_docs.specs.SiteDocuments.{IsDeltaDocument, delta_checks}
+use Rattle.summary_docs.specs.Reading.{IsShownDocument, ReadsAsShown, RefusesShown, shown_checks}
+use Rattle.summary_docs.specs.Shown.{ShownState}
 use Rattle.site_docs.proofs.ReadingOneDocument.{one_delta, one_site}
 use Rattle.map_docs.specs.LabelsChecks.{langmaps_checks}
 use Rattle.map_docs.specs.MapsLabels.{AreLangMaps, ReadsAsLangMaps, RefusesLangMaps}
@@ -46,7 +51,7 @@ use Rattle.docs_core.proofs.CallRefusals.{one_ahead, one_of_cells}
 use Rattle.docs_core.proofs.CallRefusals.{one_of_document, one_of_site_call, one_of_site_document}
 use Rattle.docs_core.proofs.CallRefusals.{site_not_refused, site_ascends}
 use Rattle.docs_core.proofs.SitesOneRefusal.{cells_named, langmaps, one_cause, read_not_refused}
-use Rattle.docs_core.proofs.SitesOneRefusal.{stamps_named}
+use Rattle.docs_core.proofs.SitesOneRefusal.{shown_named}
 use Rattle.docs_core.proofs.UpdatingLaws.{one_list}
 use Rattle.map_docs.proofs.MapsLawsLemmas.{same_labels}
 
@@ -58,11 +63,10 @@ delta_not_refused number bytes delta fault reads (cause, why, is) =
     read_not_refused delta_checks (cells_named kind.Delta) IsDeltaDocument bytes delta cause reads
     why
 
-summary_not_refused : (number : ℕ) (bytes : List ℕ) (summary : SummaryState) (fault : DocFault)
-    → ReadsAsSummary bytes summary → IsOfDocument number (RefusesSummary bytes) fault → ⊥
-summary_not_refused number bytes summary fault reads (cause, why, is) =
-    read_not_refused summary_checks (stamps_named kind.Summary) IsSummaryDocument bytes summary
-    cause reads why
+shown_not_refused : (number : ℕ) (bytes : List ℕ) (shown : ShownState) (fault : DocFault)
+    → ReadsAsShown bytes shown → IsOfDocument number (RefusesShown bytes) fault → ⊥
+shown_not_refused number bytes shown fault reads (cause, why, is) =
+    read_not_refused shown_checks shown_named IsShownDocument bytes shown cause reads why
 
 maps_not_refused : (number : ℕ) (bytes : List ℕ) (labels : List Labelled) (fault : DocFault)
     → AreLangMaps bytes labels → IsOfDocument number (RefusesLangMaps bytes) fault → ⊥
@@ -75,11 +79,11 @@ one_of_delta : (number : ℕ) (bytes : List ℕ) (x y : DocFault)
 one_of_delta number bytes = one_of_document number (RefusesDelta bytes)
     (one_cause delta_checks (cells_named kind.Delta) bytes)
 
-one_of_summary : (number : ℕ) (bytes : List ℕ) (x y : DocFault)
-    → IsOfDocument number (RefusesSummary bytes) x → IsOfDocument number (RefusesSummary bytes) y
+one_of_shown : (number : ℕ) (bytes : List ℕ) (x y : DocFault)
+    → IsOfDocument number (RefusesShown bytes) x → IsOfDocument number (RefusesShown bytes) y
     → x ≡ y
-one_of_summary number bytes = one_of_document number (RefusesSummary bytes)
-    (one_cause summary_checks (stamps_named kind.Summary) bytes)
+one_of_shown number bytes = one_of_document number (RefusesShown bytes)
+    (one_cause shown_checks shown_named bytes)
 
 one_of_maps : (number : ℕ) (bytes : List ℕ) (x y : DocFault)
     → IsOfDocument number (RefusesLangMaps bytes) x
@@ -282,8 +286,9 @@ one_sync checks a b x y p q =
 
 -- ---- deltas that are taken
 
-delta_in_time_not_refused : (number : ℕ) (limit : Option ℕ) (bytes : List ℕ) (delta : DeltaState)
-    (fault : DocFault) → ReadsInTime limit bytes delta
+-- a delta that is read in time is not refused
+pub delta_in_time_not_refused : (number : ℕ) (limit : Option ℕ) (bytes : List ℕ)
+    (delta : DeltaState) (fault : DocFault) → ReadsInTime limit bytes delta
     → RefusesDeltaUntil number limit bytes fault → ⊥
 delta_in_time_not_refused number limit bytes delta fault (reads, in_time) why =
     elim why as (λ _. ⊥) [
@@ -407,10 +412,10 @@ one_take checks a b x y p q = let limit = checks.not_after in elim p [
 -- where a delta is made nothing is refused
 pub delta_call_not_refused : (a b text : List ℕ) (fault : DocFault) → IsDeltaFor a b text
     → RefusesDeltaFor a b fault → ⊥
-delta_call_not_refused a b text fault (site, summary, reads, seen, is) why =
+delta_call_not_refused a b text fault (site, shown, reads, seen, is) why =
     elim why as (λ _. ⊥) [
       | inl refused ↦ site_not_refused 1 a site fault reads refused
-      | inr (s, r, refused) ↦ summary_not_refused 2 b summary fault seen refused
+      | inr (s, r, refused) ↦ shown_not_refused 2 b shown fault seen refused
     ]
 
 -- the making of a delta is refused by one fault
@@ -423,7 +428,7 @@ one_delta_call a b x y p q = elim p [
   ]
   | inr (s, reads, two) ↦ elim q [
     | inl other ↦ absurd (site_not_refused 1 a s y reads other)
-    | inr (t, again, other) ↦ one_of_summary 2 b x y two other
+    | inr (t, again, other) ↦ one_of_shown 2 b x y two other
   ]
 ]
 

@@ -1,4 +1,9 @@
 -- No documents are both answered and refused by a call, and they are refused by one fault.
+--
+-- These are the stages that CallLaws puts together. A document is refused by its reader for one
+-- cause. A time that is ahead, and an own edit that is missing, are each named by the first such
+-- row: all rows before it pass, so two rows that are both the first are one. Cells clash at one
+-- cell, since the first key at which they do not agree is one.
 use Rattle.std.proofs.Common.{◌≡◌, ◌∙◌, ◌<◌, ℕ, List, [], ◌∷◌, ◌++◌, ap, arith, get_or}
 use Rattle.std.proofs.Common.{inl, inr, length, refl, subst, sym}
 use Rattle.std.specs.Prelude.{◌≢◌, All, None, Option, Some}

@@ -15,7 +15,7 @@ use Rattle.catalogue.proofs.CatalogueFlatLemmas.{all_first, all_rest}
 use Rattle.docs_core.specs.EditedRows.{after_key, before_key}
 use Rattle.cell_core.proofs.Basics.{is_greater as greater, second_part}
 use Rattle.docs_core.proofs.JoinedRowsLemmas.{AreAfter, after_first}
-use Rattle.docs_core.proofs.LackedRowsLemmas.{above_one}
+use Rattle.summary_docs.proofs.LackedRowsLemmas.{above_one}
 
 -- entries after a key are none of those before it
 none_before : (key : EntryKey) (es : Entries) → AreAfter key es → before_key key es ≡ []

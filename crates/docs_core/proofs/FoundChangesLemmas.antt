@@ -1,4 +1,10 @@
 -- The changes from old language maps to new ones, as far as the cells of a site were seen.
+--
+-- `IsFoundIn` is the invariant of that walk: the keys of both maps that are left are greater than
+-- those of the cells seen, and the changes that were noted, with those at the keys left, are all
+-- changes. One cell more passes the lesser keys, which have no cell, and then its own key, if a map
+-- has it. Once no cell comes the keys left have none, and once no key is left the changes noted are
+-- all.
 use Rattle.std.proofs.Common.{◌≡◌, ◌≢◌, ◌∙◌, ◌++◌, [], ◌∷◌, List, None, Some, ap, append-nil}
 use Rattle.std.proofs.Common.{append_assoc, cond, false, inl, inr, refl, subst, sym, true}
 use Rattle.std.proofs.lemmas.List.Elements.{All-append, All-cons, All-nil}

@@ -1,4 +1,10 @@
 -- Maps that are joined entry by entry, in ascending order of key.
+--
+-- Both maps are seen from their first key on, and what is written so far is the join of what was
+-- seen of both. So an entry that comes next is above all of it: put at the end it is found by its
+-- own key alone, and the join grows by just this entry. Three cases go on from there, as the key is
+-- in the own map, in the other one or in both. The two agree as long as each common key agrees; at
+-- the first that does not, all before it do, and this clash stays the first.
 use Rattle.std.proofs.Common.{◌≡◌, ◌≢◌, ◌∙◌, ◌<◌, ◌++◌, [], ◌∷◌, ℕ, List, Option, Some, None}
 use Rattle.std.proofs.Common.{append-nil, append_assoc, ap, arith, cond, false, inr, length}
 use Rattle.std.proofs.Common.{refl, subst, suc, sym, true, true≢false, zero}

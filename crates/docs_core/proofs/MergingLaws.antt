@@ -1,4 +1,10 @@
--- Of many sites that are merged: the join of all, in what order they come, and in parts.
+-- Sites that are merged: the join of all, in what order they come, and in parts.
+--
+-- A merge joins each site to those before it. If each two agree, each in turn agrees with the join
+-- of those before, and the whole is the least catalogue above all of them. A least one does not
+-- depend on the order or on repeats, which gives `any_order` and `any_copies`. For refusals: the
+-- documents before the one that is refused are merged, so of two refused places the later one can't
+-- be refused too. The part of a join is the join of the parts, as both are found key by key.
 use Rattle.std.proofs.Common.{◌≡◌, ◌∙◌, ◌+◌, ℕ, Bool, List, [], ◌∷◌, ◌++◌, ap, arith, cond}
 use Rattle.std.proofs.Common.{false, inl, inr, length, map, refl, subst, sym, true}
 use Rattle.std.specs.Prelude.{◌⊎◌, ◌↔◌, All, Contains, None, Option, Some}

@@ -1,4 +1,9 @@
 -- Documents that are merged one after another.
+--
+-- `IsMergedTo` is the invariant of the loop over the lines of the input: the documents before the
+-- lines left are as many as its number says, and the site so far is their merge. The first document
+-- starts it, each further one adds its site at the end of the list, and where one is refused the
+-- invariant says what was merged before it, as the contract of a refusal wants.
 use Rattle.std.proofs.Common.{◌≡◌, ◌∙◌, ◌<◌, ◌≤◌, ◌+◌, ℕ, List, [], ◌∷◌, ◌++◌, ap}
 use Rattle.std.proofs.Common.{append_assoc, arith, inl, inr, length, length-append, refl}
 use Rattle.std.proofs.Common.{subst, sym}

@@ -1,4 +1,10 @@
 -- What is read of a text of version 1 fits, and two sites sync as they join before the migration.
+--
+-- A text of version 1 is read as the migrated data of its document. The numbers of a text that is
+-- read are below 2^64 (NumbersSmall), and those of a site and a count below 2^32 by their tests, so
+-- each stamp of the migrated data fits its fields. Keys ascend after the migration only if they did
+-- before. Each kind of document is one case of this. Two sites of version 1 that agree then sync as
+-- documents, and the result is the migrated join of the old maps.
 use Rattle.std.proofs.Common.{◌≡◌, ◌∙◌, ◌<◌, ◌^◌, ◌&&◌, ◌++◌, ℕ, List, [], ◌∷◌, Bool, true, false}
 use Rattle.std.proofs.Common.{T, ap, ap₂, cond, map, refl, subst, sym}
 use Rattle.std.specs.Prelude.{All, Option, None, Some, option_map, option_and_then, unwrap_or}

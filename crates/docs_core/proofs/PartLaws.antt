@@ -1,4 +1,10 @@
 -- Exports, missing labels and bundles: in parts, and one of each.
+--
+-- An export and the missing labels are made message by message, so a part of the messages gives
+-- that part of the answer, by induction over the list of messages. A bundle chooses for each
+-- message among its own labels alone, so the same holds of it. That a bundle is one follows from
+-- its definition: at each message the choice is one, and two maps with the same value at each key
+-- are one.
 use Rattle.std.proofs.Common.{◌≡◌, ◌∙◌, ℕ, Bool, true, false, cond, List, [], ◌∷◌, Option, Some}
 use Rattle.std.proofs.Common.{None, ap, sym, subst, refl, inl, inr, true≢false}
 use Rattle.std.specs.Prelude.{◌↔◌, Contains, IsTrue, filter, option_map}

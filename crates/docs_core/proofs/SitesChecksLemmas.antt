@@ -1,11 +1,16 @@
 -- What the checks of an exchange let in, and what they refuse.
-use Rattle.std.proofs.Common.{◌≡◌, ◌∙◌, ◌+◌, ◌≤◌, ℕ, Bool, List, [], ◌∷◌, ◌++◌, true}
+--
+-- What is taken, synced or merged under checks is the same without them, with a premise more: both
+-- sides of that law take the answer apart and put it together again. For limits: a cell of a join
+-- is from one of the two that were joined (`either_cell`), so a cell after a take was there before
+-- or is from the delta, whose times are in the limit; a merge is such joins one after another.
+use Rattle.std.proofs.Common.{◌≡◌, ◌∙◌, ◌≤◌, ℕ, Bool, List, [], ◌∷◌, ◌++◌, true}
 use Rattle.std.proofs.Common.{false, cond, ap, append_assoc, inl, inr}
 use Rattle.std.proofs.Common.{refl, subst, sym}
 use Rattle.std.specs.Prelude.{◌≢◌, ◌⊎◌, ◌↔◌, All, None, Option, Some}
 use Rattle.std.specs.FinMap.Entries.{find}
 use Rattle.std.specs.Ordering.{eq_by_cmp, is_lt}
-use Rattle.std.proofs.lemmas.List.Elements.{All-contains, All-nil, All-push}
+use Rattle.std.proofs.lemmas.List.Elements.{All-contains, All-head, All-nil, All-push, All-tail}
 use Rattle.cell_core.specs.Cell.{cell_laws, joined_cells}
 use Rattle.cell_core.specs.Keyed.{joined_if_both}
 use Rattle.cell_core.specs.KeyedLaws.{find-joined_maps}
@@ -22,7 +27,8 @@ use Rattle.catalogue.proofs.CatalogueMembersLemmas.{Contains-from_in, In}
 use Rattle.site_docs.specs.Reading.{ReadsAsDelta, ReadsAsSite}
 use Rattle.docs_core.specs.Calls.{AreSynced, IsTaken}
 use Rattle.site_docs.specs.Checks.{LackNoOwn, LacksNoOwn, no_checks}
-use Rattle.docs_core.specs.Merging.{IsMerged}
+use Rattle.docs_core.specs.Lines.{documents_of}
+use Rattle.docs_core.specs.Merging.{IsMerged, ReadAsSites, joined_all, merged_site}
 use Rattle.site_docs.specs.declared.checks.Checks.{Checks}
 use Rattle.site_docs.specs.declared.checks.OwnEdits.{OwnEdits}
 use Rattle.site_docs.specs.declared.checks.OwnEdits.TheVariants.{Checked, Unchecked}
@@ -225,6 +231,43 @@ taken_in_time own a b text limit site after key c reads after_reads
     ⊎ (c.stamp.time ≤ limit)) (one_site a held site held_reads reads)
     (from_either held.cells delta.cells limit key c agree in_time.1 (ap (λ
     (s : SiteState). find key_cmp key s.cells) (sym same) ∙ found))
+
+-- a cell after several joins was in the first, or its time is in the limit of the others
+joined_in_time : (limit : ℕ) (key : EntryKey) (c : Cell) (others : List SiteState) (cells : Entries)
+    → ((before : List SiteState) (other : SiteState) (after : List SiteState)
+    → others ≡ before ++ other ∷ after → Agree (joined_all cells before) other.cells)
+    → All (λ (other : SiteState). AreInTime (Some limit) other.cells) others
+    → find key_cmp key (joined_all cells others) ≡ Some c
+    → (find key_cmp key cells ≡ Some c) ⊎ (c.stamp.time ≤ limit)
+joined_in_time limit key c [] cells agree all is = inl is
+joined_in_time limit key c (site ∷ sites) cells agree all is =
+    elim (joined_in_time limit key c sites (joined cells site.cells)
+    (λ before other after e. agree (site ∷ before) other after
+    (ap (λ (others : List SiteState). site ∷ others) e))
+    (All-tail (λ (other : SiteState). AreInTime (Some limit) other.cells) site sites all) is) as
+    (λ _. (find key_cmp key cells ≡ Some c) ⊎ (c.stamp.time ≤ limit)) [
+      | inl held ↦ from_either cells site.cells limit key c (agree [] site sites refl)
+          (All-head (λ (other : SiteState). AreInTime (Some limit) other.cells) site sites all) held
+      | inr came ↦ inr came
+    ]
+
+-- a cell after a merge was in the first site, or its time is in the limit
+pub merged_in_time : (own : OwnEdits) (input a text : List ℕ) (rest : List (List ℕ)) (limit : ℕ)
+    (site after : SiteState) (key : EntryKey) (c : Cell) → documents_of input ≡ a ∷ rest
+    → ReadsAsSite a site → ReadsAsSite text after
+    → IsMerged (record { not_after = Some limit; own_edits = own }) input text
+    → find key_cmp key after.cells ≡ Some c
+    → (find key_cmp key site.cells ≡ Some c) ⊎ (c.stamp.time ≤ limit)
+merged_in_time own input a text rest limit site after key c starts reads after_reads
+    (first, others, so, is) found =
+    let same : after ≡ merged_site first others =
+    one_site text after (merged_site first others) after_reads is.1 in
+    let read =
+    subst (λ (ds : List (List ℕ)). ReadAsSites ds (first ∷ others)) starts so.read in
+    subst (λ (s : SiteState). (find key_cmp key s.cells ≡ Some c) ⊎ (c.stamp.time ≤ limit))
+    (one_site a first site read.0 reads)
+    (joined_in_time limit key c others first.cells so.agree so.in_time
+    (ap (λ (s : SiteState). find key_cmp key s.cells) (sym same) ∙ found))
 
 both_in_time : (first second : Entries) (limit : ℕ) (key : EntryKey) (c : Cell)
     → Agree first second → All (IsInTime limit) first → All (IsInTime limit) second

@@ -1,4 +1,9 @@
 -- No field is both taken and refused, and it is refused for one cause, out of memory apart.
+--
+-- The causes of a tag, a label and a priority list are read off their definitions: a number, an
+-- offset and perhaps a count. The definitions exclude each other, since each later cause says that
+-- the tests before it passed, and an offset is the first at which a test fails, of which there is
+-- one.
 use Rattle.std.proofs.Common.{◌≡◌, ◌≢◌, ◌∙◌, ◌≤◌, ◌<◌, ℕ, List, [], true}
 use Rattle.std.proofs.Common.{length, sym, ap, refl, inl, inr, arith, get_or}
 use Rattle.std.proofs.lemmas.Bool.Decides.{nat_tests}

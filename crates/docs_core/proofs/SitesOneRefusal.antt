@@ -1,7 +1,13 @@
 -- No text is both read and refused, and it is refused for one cause.
+--
+-- A document is a list of tests, each with the causes for which it refuses. `IsTest` says of one
+-- that nothing both passes and fails it, and that it refuses for one cause; `AreTests` of all. Then
+-- a text that passes all is not refused, and the first test that fails gives the one cause. What is
+-- left is to see that each test of each kind of document is one: of its fields that is
+-- SitesFieldRefusals.
 use Rattle.std.proofs.Common.{◌≡◌, ◌∙◌, ◌++◌, ◌+◌, ℕ, List, [], ◌∷◌, Bool, true, false, length, sym}
 use Rattle.std.proofs.Common.{ap, subst, inl, inr}
-use Rattle.std.specs.Prelude.{Option, None, Some, unwrap_or}
+use Rattle.std.specs.Prelude.{Option, None, Some, codes, unwrap_or}
 use Rattle.serde_json.specs.Data.{Data}
 use Rattle.cell_core.specs.declared.fault.CellFault.{CellFault}
 use Rattle.lang_core.specs.declared.fault.LangFault.{LangFault}
@@ -24,8 +30,9 @@ use Rattle.row_docs.specs.Ascending.{cell_checks, cell_row, entry_in, last_key, 
 use Rattle.row_docs.specs.Ascending.{own_stamp_checks, stamp_checks, stamp_row, stamped_in}
 use Rattle.row_docs.specs.EntriesValues.{Row}
 use Rattle.row_docs.specs.declared.kind.Kind.{Kind}
-use Rattle.row_docs.specs.declared.kind.Kind.TheVariants.{Script}
+use Rattle.row_docs.specs.declared.kind.Kind.TheVariants.{Script, Summary}
 use Rattle.row_docs.specs.declared.version.Version.{Version}
+use Rattle.summary_docs.specs.Reading.{checks_by, shown_checks, shows_labels, without}
 use Rattle.script_docs.specs.Reading.{script_checks, sites_check}
 use Rattle.script_docs.specs.StepFields.{default_checks, list_check, shaped_fields, step_checks}
 use Rattle.script_docs.specs.StepFields.{step_fields}
@@ -192,6 +199,14 @@ cells_named kind d = named kind cell_checks cell_rows d
 -- each test of a document of stamps is one
 pub stamps_named : (kind : Kind) (d : Data) → AreTests (document_checks kind stamp_checks d)
 stamps_named kind d = named kind stamp_checks stamp_rows d
+
+-- each test of a summary's document that may show labels is one
+pub shown_named : (d : Data) → AreTests (shown_checks d)
+shown_named d = by (shows_labels d)
+  where
+    by : (shows : Bool) → AreTests (checks_by shows d)
+    by false = stamps_named Summary d
+    by true = (plain _ _, stamps_named Summary (without (codes "labels") d))
 
 -- each test of a document of a script is one
 pub scripts : (d : Data) → AreTests (script_checks d)

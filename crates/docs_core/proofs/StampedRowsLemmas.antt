@@ -1,4 +1,10 @@
 -- Changes that are written with their stamps: joined with a site they are made.
+--
+-- The stamps of an edit ascend and are later than all that the site has. So each cell of an edit
+-- agrees with the site's cell at its key, and wins the join. Joining the list of stamped changes to
+-- a site is therefore putting each change at its key, in order. The second half is the invariant of
+-- the writer: the labels or changes that were taken so far have their stamps, and one more has the
+-- next one.
 use Rattle.std.proofs.Common.{◌≡◌, ◌∙◌, ◌++◌, [], ◌∷◌, ℕ, List, None, Option, Some}
 use Rattle.std.proofs.Common.{ap, append-nil, append_assoc, cond, false, inl, inr, refl, subst}
 use Rattle.std.proofs.Common.{sym}
@@ -32,7 +38,7 @@ use Rattle.docs_core.specs.declared.call.stamped_rows.StampedRows.{StampedRows}
 use Rattle.cell_core.proofs.Basics.{first_part, second_part, tied_order as tied}
 use Rattle.list_core.proofs.Basics.{element_at as first_left}
 use Rattle.docs_core.proofs.JoinedRowsLemmas.{apart_agrees, joined_first, joined_later}
-use Rattle.docs_core.proofs.LackedRowsLemmas.{above_before, above_one}
+use Rattle.summary_docs.proofs.LackedRowsLemmas.{above_before, above_one}
 
 -- ---- a cell that replaces an earlier one
 

@@ -1,4 +1,9 @@
 -- The rows of a site that are joined with those of another document as both are read.
+--
+-- The own site is seen row by row, and before each row the other document is read as far as lesser
+-- keys go. JoinedRowsLemmas says what the join of what was seen is; here it is tied to the state of
+-- the reader and to the draft: which rows are written, which row was read last, and what is left.
+-- Once both are at their ends the draft has the rows of the join.
 use Rattle.std.proofs.Common.{◌≡◌, ◌≢◌, ◌∙◌, ◌++◌, [], ◌∷◌, ℕ, List, Option, Some, None, append-nil}
 use Rattle.std.proofs.Common.{false, refl, subst, sym, true≢false}
 use Rattle.std.proofs.lemmas.List.Elements.{All-append, All-cons, All-nil}

@@ -1,4 +1,9 @@
 -- What an update leaves.
+--
+-- An update is a list of changes, each at a key where the old and the new labels differ. A list of
+-- changes leaves at its keys what it says, and at all others what was there (`made_at`). Each law
+-- is this, read at a key: there the editor left the label as it was, or the site has the new one
+-- now. An update made twice finds each new label in its place, so its second list is empty.
 use Rattle.std.proofs.Common.{◌≡◌, ◌∙◌, ℕ, true, false, cond, List, [], ◌∷◌, refl, sym, ap, subst}
 use Rattle.std.proofs.Common.{inl, inr}
 use Rattle.std.specs.Prelude.{◌⊎◌, None, Option, Some}

@@ -1,4 +1,9 @@
 -- Changes from old labels to new ones, key by key.
+--
+-- Two ascending lists are walked at once, and the lesser of their first keys is the next: it is
+-- removed, added, or compared if both have it. `IsFront` is the invariant: some changes are made,
+-- and those of the keys left come after them, with greater keys and later stamps. A step passes the
+-- least key, with a change or with none; where the clock is spent in the rest, it is in the whole.
 use Rattle.std.proofs.Common.{◌≡◌, ◌≢◌, ◌∙◌, ℕ, Bool, true, false, cond, List, [], ◌∷◌, ◌++◌, refl}
 use Rattle.std.proofs.Common.{◌≤◌, ◌<◌, sym, ap, append-nil, append_assoc, arith, length, subst}
 use Rattle.std.proofs.Common.{inl, inr}

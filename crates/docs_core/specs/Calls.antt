@@ -4,12 +4,10 @@ use Rattle.std.specs.FinMap.Entries.{put}
 use Rattle.cell_core.specs.Stamp.{IsNext}
 use Rattle.cell_core.specs.declared.stamp.Stamp.{Stamp}
 use Rattle.catalogue.specs.CataFault.{IsRefusal}
-use Rattle.cata_core.specs.Delta.{delta_of, summary_of}
 use Rattle.cell_core.specs.Entry.{EntryKey, key_cmp}
 use Rattle.catalogue.specs.Entries.{Agree, joined}
 use Rattle.catalogue.specs.CatalogueLatest.{latest_of}
 use Rattle.cata_core.specs.Site.{RefusesEdit, SiteState}
-use Rattle.cata_core.specs.Summary.{SummaryState}
 use Rattle.catalogue.specs.declared.cata_fault.CataFault.{CataFault}
 use Rattle.catalogue.specs.declared.cata_fault.CataFault.TheVariants.{NoMemory, NotForMe}
 use Rattle.cata_core.specs.declared.delta.Delta.{Delta}
@@ -17,13 +15,16 @@ use Rattle.json_docs.specs.Faults.{of_no_document, of_site}
 use Rattle.json_docs.specs.declared.fault.DocCause.TheVariants.{Site}
 use Rattle.json_docs.specs.declared.fault.DocFault.{DocFault}
 use Rattle.row_docs.specs.Reading.{IsOfDocument}
-use Rattle.site_docs.specs.Reading.{IsDeltaText, IsSiteText, IsSummaryText}
-use Rattle.site_docs.specs.Reading.{ReadsAsSite, ReadsAsSummary, RefusesSite, RefusesSummary}
+use Rattle.site_docs.specs.Reading.{IsDeltaText, IsSiteText, ReadsAsSite, RefusesSite}
 use Rattle.site_docs.specs.RowsInTime.{AreInTime}
 use Rattle.site_docs.specs.Checks.{IsAheadOfBoth, IsOwnMissing, IsOwnMissingOfBoth, LackNoOwn}
 use Rattle.site_docs.specs.Checks.{LacksNoOwn, ReadsInTime, RefusesDeltaUntil}
 use Rattle.site_docs.specs.declared.checks.Checks.{Checks}
 use Rattle.site_docs.specs.declared.checks.OwnEdits.{OwnEdits}
+use Rattle.summary_docs.specs.Reading.{ReadsAsShown, RefusesShown}
+use Rattle.summary_docs.specs.Shown.{ShownState, delta_for}
+use Rattle.summary_docs.specs.Writing.{IsSummaryBy}
+use Rattle.summary_docs.specs.declared.summaries.Shows.{Shows}
 
 -- it is the refusal of a site's call, out of memory apart
 abbrev pub IsOfSite : (CataFault → Type 0) → DocFault → Type 0
@@ -80,24 +81,25 @@ RefusesSync checks a b fault =
 
 -- ---- summaries and deltas
 
--- the summary of the site that the bytes are a document of
-abbrev pub IsSummarised : List ℕ → List ℕ → Type 0
-IsSummarised bytes text =
-    (site : SiteState) × ReadsAsSite bytes site
-    × IsSummaryText (record { owner = site.name; stamps = summary_of site.cells }) text
+-- the summary of the site that the bytes are a document of, with labels or without
+abbrev pub IsSummarised : Shows → List ℕ → List ℕ → Type 0
+IsSummarised shows bytes text =
+    (site : SiteState) × ReadsAsSite bytes site × IsSummaryBy shows site text
 
 -- the cells that the summary lacks, for its owner
 abbrev pub IsDeltaFor : List ℕ → List ℕ → List ℕ → Type 0
 IsDeltaFor a b text =
-    (site : SiteState) × (summary : SummaryState) × ReadsAsSite a site × ReadsAsSummary b summary
-    × IsDeltaText (record { addressee = summary.owner; cells = delta_of site.cells summary.stamps })
-    text
+    (site : SiteState) × (shown : ShownState) × ReadsAsSite a site × ReadsAsShown b shown
+    × IsDeltaText (record {
+      addressee = shown.summary.owner;
+      cells = delta_for site.cells shown;
+    }) text
 
 -- the site's document is refused, then the summary's
 abbrev pub RefusesDeltaFor : List ℕ → List ℕ → DocFault → Type 0
 RefusesDeltaFor a b fault =
     IsOfDocument 1 (RefusesSite a) fault
-    ⊎ ((site : SiteState) × ReadsAsSite a site × IsOfDocument 2 (RefusesSummary b) fault)
+    ⊎ ((site : SiteState) × ReadsAsSite a site × IsOfDocument 2 (RefusesShown b) fault)
 
 -- the site with the cells of a delta for it, which passed the checks
 abbrev pub IsTaken : Checks → List ℕ → List ℕ → List ℕ → Type 0

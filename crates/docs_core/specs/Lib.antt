@@ -4,7 +4,6 @@ pub mod FoundChanges
 pub mod Importing
 pub mod ImportingLabels
 pub mod JoinedRows
-pub mod LackedRows
 pub mod Lines
 pub mod Merging
 pub mod MigrationSites

@@ -4,7 +4,6 @@ pub(crate) mod edited_rows;
 pub(crate) mod found_changes;
 pub(crate) mod importing;
 pub(crate) mod joined_rows;
-pub(crate) mod lacked_rows;
 pub(crate) mod latest_stamp;
 pub(crate) mod merging;
 pub(crate) mod replaying;

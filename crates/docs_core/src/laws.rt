@@ -41,6 +41,9 @@ ghost use Rattle.site_docs.specs.Checks.{LackNoOwn, LacksNoOwn, ReadsInTime, no_
 ghost use Rattle.site_docs.specs.declared.checks.Checks.{Checks};
 ghost use Rattle.site_docs.specs.declared.checks.OwnEdits.{OwnEdits};
 ghost use Rattle.site_docs.specs.declared.checks.OwnEdits.TheVariants.{Checked};
+ghost use Rattle.summary_docs.specs.Shown.{DigestsTell};
+ghost use Rattle.summary_docs.specs.declared.summaries.Shows.{Shows};
+ghost use Rattle.summary_docs.specs.declared.summaries.Shows.TheVariants.{Labels};
 ghost use Rattle.docs_core.specs.Importing.{IsImported, RefusesImport};
 ghost use Rattle.docs_core.specs.ImportingLabels.{Imports};
 ghost use Rattle.docs_core.specs.Lines.{documents_of};
@@ -56,6 +59,10 @@ pub use script_docs::laws::{a_written_field_is_the_shortest, one_script};
 pub use site_docs::laws::{
     one_delta, one_site, one_summary, written_delta_reads, written_site_reads,
     written_summary_reads,
+};
+pub use summary_docs::laws::{
+    a_checked_delta_acts_as_a_merge, a_shown_delta_suffices, digests_add_only_what_does_not_agree,
+    one_shown_summary, without_digests_stamps_make_the_delta,
 };
 
 /// A text is replayed as one text at most.
@@ -151,12 +158,23 @@ pub fn a_delta_document_suffices()
 {}
 
 /// An exchange by documents is a join: a site that takes the delta which another made for its
-/// summary has the document of the cells of both.
+/// summary, with labels or without, has the document of the cells of both.
 pub fn an_exchange_is_a_join()
-    ensures { (checks : Checks) (a b told delta taken : List ℕ) (site other : SiteState)
+    ensures { (shows : Shows) (checks : Checks) (a b told delta taken : List ℕ)
+        (site other : SiteState)
         → ReadsAsSite a site → ReadsAsSite b other → Agree site.cells other.cells
-        → IsSummarised a told → IsDeltaFor b told delta → IsTaken checks a delta taken
+        → IsSummarised shows a told → IsDeltaFor b told delta → IsTaken checks a delta taken
         → IsSiteText (record { name = site.name; cells = joined site.cells other.cells }) taken }
+{}
+
+/// An exchange by a summary that shows labels notices what a sync does, whatever happened before.
+/// If no two labels of one key and stamp have one digest, and no checks are asked for, taking the
+/// delta is refused exactly as the sync of both documents is.
+pub fn a_checked_exchange_is_refused_as_a_sync_is()
+    ensures { (a b told delta : List ℕ) (site other : SiteState) (fault : DocFault)
+        → ReadsAsSite a site → ReadsAsSite b other → DigestsTell site.cells other.cells
+        → IsSummarised Labels a told → IsDeltaFor b told delta
+        → RefusesTaking no_checks a delta fault ↔ RefusesSync no_checks a b fault }
 {}
 
 /// Synced documents have equal `cells`: those of both sites.
@@ -245,7 +263,8 @@ pub fn checks_take_the_same()
 {}
 
 /// No cell that comes in under a limit has a time after it. After a take each other cell was there
-/// before; after a sync no cell has a later time.
+/// before, and after a merge each other cell was in the first site. After a sync no cell has a
+/// later time.
 pub fn what_comes_in_is_in_the_limit()
     ensures taken { (own : OwnEdits) (a b text : List ℕ) (limit : ℕ) (site after : SiteState)
         (key : EntryKey) (cell : Cell) → ReadsAsSite a site → ReadsAsSite text after
@@ -257,6 +276,12 @@ pub fn what_comes_in_is_in_the_limit()
         → AreSynced (record { not_after = Some limit; own_edits = own }) a b x y
         → find key_cmp key after.cells ≡ Some cell
         → cell.stamp.time ≤ limit }
+    ensures merged { (own : OwnEdits) (input a text : List ℕ) (rest : List (List ℕ)) (limit : ℕ)
+        (first after : SiteState) (key : EntryKey) (cell : Cell) → documents_of input ≡ a ∷ rest
+        → ReadsAsSite a first → ReadsAsSite text after
+        → IsMerged (record { not_after = Some limit; own_edits = own }) input text
+        → find key_cmp key after.cells ≡ Some cell
+        → (find key_cmp key first.cells ≡ Some cell) ⊎ (cell.stamp.time ≤ limit) }
 {}
 
 /// An edit that its site made and lacks is never passed over in silence. Where own edits are looked

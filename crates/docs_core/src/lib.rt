@@ -7,12 +7,13 @@
 //!   [`bundle_document`], [`missing_document`], [`outdated_document`], [`changes_document`],
 //!   [`sync_documents`], [`merge_documents`], [`summary_document`], [`delta_document`],
 //!   [`take_document`], [`ask_document`] and [`status_document`] work on whole documents, from
-//!   bytes to bytes. By [`Checks`] an exchange tests what comes in. [`two_documents`] and [`Lines`]
-//!   cut an input into its documents.
+//!   bytes to bytes. By [`Checks`] an exchange tests what comes in, and by [`Shows`] a summary
+//!   shows labels. [`two_documents`] and [`Lines`] cut an input into its documents.
 //! - [`read_message`] reads of a site what a question about one message needs.
 //! - [`filter_lines`], [`reply_line`], [`status_line`], [`changes_lines`], [`write_live_labels`],
 //!   [`write_missing`], [`write_outdated`] and [`write_bundle`] write the answers of a site in
-//!   memory, without its document; [`put_labels`] and [`update_labels`] edit it.
+//!   memory, without its document, [`summary_of_site`] its summary, and [`delta_of_site`] the delta
+//!   for another; [`put_labels`] and [`update_labels`] edit it.
 //! - [`replay`] runs the script of a [`Source`] and writes the lines of its answers to a [`Sink`];
 //!   [`read_all`] and [`write_out`] are its two ends. [`Input`] and [`Output`] make a source and a
 //!   sink of `std`'s `Read` and `Write`.
@@ -54,3 +55,4 @@ pub use site_docs::{
     Checks, OwnEdits, first_row_ahead, read_delta, read_delta_until, read_site, read_summary,
     write_delta, write_site, write_summary,
 };
+pub use summary_docs::{Shows, delta_of_site, summary_of_site};

@@ -16,6 +16,7 @@ mod reading;
 mod refusals;
 mod script_writing;
 mod scripts;
+mod shown_labels;
 mod sites;
 mod summaries;
 mod time_limits;

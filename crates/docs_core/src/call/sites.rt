@@ -18,7 +18,6 @@ ghost use Rattle.site_docs.specs.Checks.{until};
 
 use crate::call::edited_rows::EditedRows;
 use crate::call::joined_rows::JoinedRows;
-use crate::call::lacked_rows::LackedRows;
 use crate::call::latest_stamp::latest_stamp;
 use crate::call::synced_rows::SyncedRows;
 use cata_core::{CataFault, Catalogue, Delta, Site};
@@ -26,10 +25,10 @@ use cell_core::{Cell, Label, MessageId, SiteName, Stamp};
 use json_docs::{Doc, DocFault};
 use lang_core::Lang;
 use site_docs::{
-    Checks, OwnEdits, RowsInTime, check_own, check_times, delta_until, document_summary,
-    show_document, site_at, summary_at,
+    Checks, OwnEdits, RowsInTime, check_own, check_times, delta_until, show_document, site_at,
 };
 use std::alloc::{AllocError, Global};
+use summary_docs::{LackedRows, Shows, shown_at, summary_of_document};
 
 /// The document of the site after an edit at the time `now`: a label is put, and none deletes.
 ///
@@ -184,17 +183,19 @@ fn check_both(alloc: Global, first: &[u8], second: &Site, own: OwnEdits) -> Resu
     Ok(())
 }
 
-/// The document of the site's summary: the stamps of its cells, deletions among them.
+/// The document of the site's summary: the stamps of its cells, deletions among them, and a digest
+/// of each label if it shows labels.
 ///
 /// Refusals: a reader's with document 1. Out of memory (26) may come before.
-pub fn summary_document(alloc: Global, site: &[u8]) -> Result<Doc, DocFault>
-    ensures { MatchResult result (IsSummarised site.now)
+pub fn summary_document(alloc: Global, site: &[u8], shows: Shows) -> Result<Doc, DocFault>
+    ensures { MatchResult result (IsSummarised shows site.now)
         (OrMemory no_memory (IsOfDocument 1 (RefusesSite site.now))) }
 {
-    document_summary(alloc, 1, site)
+    summary_of_document(alloc, 1, site, shows)
 }
 
-/// The document of the delta of what the summary lacks, for the summary's owner.
+/// The document of the delta of what the summary lacks, for the summary's owner. If the summary
+/// shows labels, it lacks also a cell whose stamp it has with the digest of another label.
 ///
 /// Refusals, in their order: a reader's with document 1, a reader's with document 2. Out of memory
 /// (26) may come before.
@@ -203,7 +204,7 @@ pub fn delta_document(alloc: Global, site: &[u8], summary: &[u8]) -> Result<Doc,
         (OrMemory no_memory (RefusesDeltaFor site.now summary.now)) }
 {
     let room = site.len();
-    let summary = match summary_at(alloc, 2, summary) {
+    let summary = match shown_at(alloc, 2, summary) {
         Ok(summary) => summary,
         Err(fault) => return Err(first_refusal(alloc, site, fault)),
     };

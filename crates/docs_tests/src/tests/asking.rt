@@ -3,7 +3,7 @@
 use super::answers::{is_found, is_line};
 use cell_core::MessageId;
 use docs_core::{
-    Ask, Doc, DocFault, ask_document, bundle_document, export_document, missing_document,
+    Ask, Doc, DocFault, Shows, ask_document, bundle_document, export_document, missing_document,
     outdated_document, read_site, status_document, summary_document, write_missing, write_outdated,
 };
 use lang_core::Lang;
@@ -34,7 +34,7 @@ pub fn is_answered(alloc: Global, site: &[u8], question: &str, line: &str) -> Re
         "outdated" => is_old(alloc, site, first, second, line),
         "export" => Ok(is_line(export_document(alloc, site), line)),
         "status" => Ok(is_line(status_document(alloc, site), line)),
-        _ => Ok(is_line(summary_document(alloc, site), line)),
+        _ => Ok(is_line(summary_document(alloc, site, Shows::Stamps), line)),
     }
 }
 
