@@ -26,7 +26,7 @@
  *   copied: two copies count as one handle, and only one of them may be used from then on.
  * - Of the handles of one site one edits, and the others ask: two that both edit would be two sites of one name.
  * - A handle begins as zeros (`sw_site site = {0};`), and then is changed by these calls alone.
- * - The thread has 96 KiB of stack left for a call (docs/LIBRARY.md has what each takes); a smaller one may overflow.
+ * - The thread has 128 KiB of stack left for a call (docs/LIBRARY.md has what each takes); a smaller one may overflow.
  * - No call is made from a signal handler. After a fork the child opens sites of its own.
  * - malloc, realloc and free are those of one allocator, which aligns blocks as the C standard asks. */
 #ifndef SILKWARAM_H
@@ -40,7 +40,7 @@ extern "C" {
 #endif
 
 /* The version of this header: 10000 * major + 100 * minor + patch. sw_version has that of the library. */
-#define SW_VERSION 300
+#define SW_VERSION 400
 
 /* How a field is read: the sum of these. Any other bit is SW_USAGE.
  * Without SW_EXTENDED a field is an Accept-Language field (RFC 9110 section 12.5.4): basic ranges with weights. With it
@@ -54,6 +54,12 @@ extern "C" {
  * default is not widened. This is the project's own, and no part of RFC 4647. Each language is asked once; with
  * SW_EXTENDED a field costs its ranges times the languages (SECURITY.md, "What bounds a call"). */
 #define SW_WIDEN 4u
+/* With SW_CHECK_OWN, which is of sw_site_take and sw_site_merge alone, an edit that comes in is refused (30) if this
+ * site made it and lacks it. So a site that was put back to an older copy is noticed, or another of the same name. */
+#define SW_CHECK_OWN 8u
+/* With SW_LABELS, which is of sw_site_summary alone, the summary has a digest of each label. The delta for it also has
+ * each cell whose label differs under the same stamp, so that taking it refuses what a merge refuses (13). */
+#define SW_LABELS 16u
 
 /* The statuses, which are those of the command `lexicat`. */
 #define SW_FOUND 0     /* there is an answer, or it is done */
@@ -205,19 +211,23 @@ int32_t sw_site_delete(sw_site *site, uint64_t now, const uint8_t *id, size_t id
                        size_t lang_len, sw_told *told);
 
 /* Joins what the site of another handle has: of each label the later edit. The two handles are two, though they may be
- * of one site.
+ * of one site. If `not_after` is not 0 no time of the other site may be greater: a limit of a day ahead of the clock
+ * keeps times far ahead out.
  *   SW_FOUND     done
- *   SW_USAGE     one of the handles is not open
- *   SW_REFUSED   two different edits of one label have one stamp (13) */
-int32_t sw_site_merge(sw_site *site, sw_site *other, sw_told *told);
+ *   SW_USAGE     a flag that is none, or one of the handles is not open
+ *   SW_REFUSED   first a time of the other site after the limit (29), then an edit of this site that it lacks (30),
+ *                each by its row in the other site's document, then two edits of one label with one stamp (13) */
+int32_t sw_site_merge(sw_site *site, uint32_t flags, sw_site *other, uint64_t not_after, sw_told *told);
 
-/* Takes the document of a delta for this site, which another site made with sw_site_delta. If `not_after` is not 0 no
- * time of the delta may be greater: a limit of a day ahead of the clock keeps times far ahead out.
+/* Takes the document of a delta for this site, which another site made with sw_site_delta. `flags` and `not_after` are
+ * as for sw_site_merge.
  *   SW_FOUND     done
- *   SW_USAGE     the handle is not open
- *   SW_REFUSED   first the delta (as sw_site_open reports a document), then a time of it (29, by its row in told->row),
- *                then a delta for another site (15), then two edits of one label with one stamp (13) */
-int32_t sw_site_take(sw_site *site, const uint8_t *delta, size_t delta_len, uint64_t not_after, sw_told *told);
+ *   SW_USAGE     a flag that is none, or the handle is not open
+ *   SW_REFUSED   first the delta (as sw_site_open reports a document), then a time of it after the limit (29), then a
+ *                delta for another site (15), then an edit of this site that it lacks (30), then two edits of one label
+ *                with one stamp (13); of 29 and 30 told->row is the row */
+int32_t sw_site_take(sw_site *site, uint32_t flags, const uint8_t *delta, size_t delta_len, uint64_t not_after,
+                     sw_told *told);
 
 /* Puts the labels of language maps, as {"greeting":{"fr":"Bonjour"}}, all or none: as the command `import`. A label may
  * have several texts, and one that the site has already is put again.
@@ -241,7 +251,7 @@ int32_t sw_site_update(sw_site *site, uint64_t now, const uint8_t *old_maps, siz
  *   SW_REFUSED   of sw_site_delta alone: the summary (18 to 21, 27, 28; 10, or 1 to 4, in a row of it), as sw_site_open
  *                reports a document */
 int32_t sw_site_write(sw_site *site, uint8_t *out, size_t out_len, sw_told *told);
-int32_t sw_site_summary(sw_site *site, uint8_t *out, size_t out_len, sw_told *told);
+int32_t sw_site_summary(sw_site *site, uint32_t flags, uint8_t *out, size_t out_len, sw_told *told);
 int32_t sw_site_status(sw_site *site, uint8_t *out, size_t out_len, sw_told *told);
 int32_t sw_site_delta(sw_site *site, const uint8_t *summary, size_t summary_len, uint8_t *out, size_t out_len,
                       sw_told *told);

@@ -60,7 +60,7 @@ static void make_deltas(unsigned turns) {
 
 static void take(unsigned turn) {
   sw_told told;
-  done(sw_site_take(&site, (const uint8_t *)deltas + (size_t)turn * ROOM, delta_lens[turn], 0, &told));
+  done(sw_site_take(&site, 0, (const uint8_t *)deltas + (size_t)turn * ROOM, delta_lens[turn], 0, &told));
 }
 
 static void put_shared(unsigned turn) {

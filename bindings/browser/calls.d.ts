@@ -1,6 +1,6 @@
 /**
  * Which language, and which label, a reader gets (RFC 4647 and Accept-Language), and sites that are edited offline and
- * exchanged: what the package for pages and Node and the addon for Node share.
+ * exchanged: what the package has in pages and in Node alike.
  */
 
 /** A text, or its bytes in UTF-8. */
@@ -66,11 +66,27 @@ export interface EditOptions {
 
 export interface TakeOptions {
   /**
-   * Refuses a delta that has a later time (29): what a clock far ahead made. 0 is no limit.
+   * Refuses a later time among what comes in (29): what a clock far ahead made. 0 is no limit.
    *
    * @default 0
    */
   notAfter?: Whole;
+  /**
+   * Refuses an edit that this site made and lacks (30): the site was put back to an older copy.
+   *
+   * @default false
+   */
+  checkOwn?: boolean;
+}
+
+export interface SummaryOptions {
+  /**
+   * Gives a digest of each label too. The delta for such a summary also has each cell whose label differs under the
+   * same stamp, so that taking it refuses what a merge refuses (13).
+   *
+   * @default false
+   */
+  labels?: boolean;
 }
 
 /** The label of a message: its language, its texts, and whether it is that of the default. */
@@ -163,8 +179,7 @@ export interface Asked {
  * The document of a site, which is asked as it lies there and never opened. It answers as a `Site` of the document
  * does.
  *
- * The addon reads the bytes at each call, so leave them as they are; it copies them where they are in a
- * SharedArrayBuffer. The module copies them until `close`.
+ * It copies the bytes, and keeps the copy until `close`.
  */
 export interface WrittenSite extends Asked {}
 
@@ -210,10 +225,13 @@ export interface Site extends Asked {
    * label that only `before` has is deleted.
    */
   update(before: LanguageMaps | Text, after: LanguageMaps | Text, options?: EditOptions): void;
-  /** Joins a delta for this site. Refused: the document, 29 by `notAfter`, 15 where it is for another site, 13. */
+  /**
+   * Joins a delta for this site. Refused: the document, 29 by `notAfter`, 15 if it is for another site, 30 by
+   * `checkOwn`, 13 if one stamp has two labels.
+   */
   take(delta: Text, options?: TakeOptions): void;
-  /** Joins all that another site holds. Refused: 13, where one stamp has two labels. */
-  merge(other: Site): void;
+  /** Joins all that another site holds. Refused: 29 by `notAfter`, 30 by `checkOwn`, 13 if one stamp has two labels. */
+  merge(other: Site, options?: TakeOptions): void;
 
   /** The site as a document, as the command `lexicat` reads and writes it. */
   write(): string;
@@ -222,7 +240,7 @@ export interface Site extends Asked {
   /** The labels of the site. */
   export(): LanguageMaps;
   /** The keys and stamps of the site's cells, as a document: what another site asks a delta by. */
-  summary(): string;
+  summary(options?: SummaryOptions): string;
   /** The delta for the owner of a summary: what they lack, as a document. Refused: the summary. */
   deltaFor(summary: Text): string;
   status(): Status;

@@ -3,8 +3,9 @@ import { readFileSync } from 'node:fs';
 import { pathToFileURL } from 'node:url';
 import { loadSync } from './silkwaram.mjs';
 
-// (a bundle in the form of CommonJS has the one name, and others the other)
-const here = typeof __filename === 'string' ? pathToFileURL(__filename) : import.meta.url;
+// (a bundle in the form of CommonJS has no address here, and its own name; in `node -e` and a REPL that
+// name is a text)
+const here = import.meta.url ?? pathToFileURL(__filename);
 
 export { Refused, load, loadSync } from './silkwaram.mjs';
 export const { Site, WrittenSite, filter, pick, refusal, version } = loadSync(

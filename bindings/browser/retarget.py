@@ -42,6 +42,15 @@ def with_swizzle(text):
     return text.replace(f"@{SHUFFLE}", "@shuffled")
 
 
+def with_whole_pairs(text):
+    """Copies a pair of bytes as a number. LLVM would copy a vector of two by a lane of a larger
+    one, which wasm-opt would not lower."""
+    for line in re.findall(r"^.*<2 x i8>.*$", text, flags=re.M):
+        if not re.match(r"  (%\w+ = load|store) <2 x i8>", line):
+            stop(f"a pair of bytes is not only copied: {line.strip()}")
+    return text.replace("<2 x i8>", "i16")
+
+
 def with_whole_loads(text):
     """Splits each load of a part of a vector into the load of a number and what makes a vector of
     it. Assembly code without text between them keeps LLVM from an instruction that does both,
@@ -78,7 +87,7 @@ def main(words):
         text = file.read()
     # (clang gives it the layout of the target that it compiles for)
     text = re.sub(r"^target (?:datalayout|triple) = .*\n", "", text, flags=re.M)
-    text = with_whole_loads(with_swizzle(without_processor(text)))
+    text = with_whole_loads(with_whole_pairs(with_swizzle(without_processor(text))))
     check(text)
     with open(words[1], "w", encoding="utf-8") as file:
         file.write(text)

@@ -3,11 +3,12 @@
 //
 // The calls are those of silkwaram.h, in a module of WebAssembly. Pointers and sizes have 64 bits there, so they are
 // BigInts here. A call may let the memory grow, which detaches every view of it: views are made where they are used.
-// The addon for Node makes the same calls of the library itself, by `over` and `refusalOf`.
 
 const EXTENDED = 1;
 const LENIENT = 2;
 const WIDEN = 4;
+const CHECK_OWN = 8;
+const LABELS = 16;
 const SCHEMES = { basic: 0, extended: EXTENDED };
 
 const FOUND = 0;
@@ -63,8 +64,8 @@ export class Refused extends Error {
   }
 }
 
-/** What is thrown where these calls, `Module` or that of the addon, refuse a call of silkwaram.h. */
-export function refusalOf(calls, report, wanted = report.number === SHAPE ? DOCUMENTS[report.name] : undefined) {
+/** What is thrown if the module refuses a call of silkwaram.h. */
+function refusalOf(calls, report, wanted = report.number === SHAPE ? DOCUMENTS[report.name] : undefined) {
   return new Refused(calls.refusalText(report.number), wanted ?? calls.meaning(report.number), report);
 }
 
@@ -92,6 +93,12 @@ function flagsOf(options) {
 
 function lookupFlagsOf(options) {
   return flagsOf(options) | (isOn(options, 'widen') ? WIDEN : 0);
+}
+
+// The flags and the limit by which an exchange tests what comes in.
+function checksOf(options) {
+  const { notAfter = 0 } = options;
+  return [isOn(options, 'checkOwn') ? CHECK_OWN : 0, whole(notAfter, 'notAfter', LARGEST_MOMENT)];
 }
 
 function textOf(given, name) {
@@ -597,16 +604,16 @@ function siteClass(calls) {
     }
 
     take(delta, options) {
-      const { notAfter = 0 } = optionsOf(options);
-      const limit = whole(notAfter, 'notAfter', LARGEST_MOMENT);
-      calls.done('sw_site_take', this.#handle, textOf(delta, 'delta'), limit);
+      const [flags, limit] = checksOf(optionsOf(options));
+      calls.done('sw_site_take', this.#handle, flags, textOf(delta, 'delta'), limit);
     }
 
-    merge(other) {
+    merge(other, options) {
       const handle = Site.#handleOf(other);
+      const [flags, limit] = checksOf(optionsOf(options));
       // (a call may not be given one handle twice, and a site has what it holds)
       if (other === this) this.status();
-      else calls.done('sw_site_merge', this.#handle, handle);
+      else calls.done('sw_site_merge', this.#handle, flags, handle, limit);
     }
 
     write() {
@@ -621,8 +628,8 @@ function siteClass(calls) {
       return JSON.parse(calls.text('sw_site_export', this.#handle));
     }
 
-    summary() {
-      return calls.text('sw_site_summary', this.#handle);
+    summary(options) {
+      return calls.text('sw_site_summary', this.#handle, isOn(optionsOf(options), 'labels') ? LABELS : 0);
     }
 
     deltaFor(summary) {
@@ -708,8 +715,8 @@ export function exportsOfSync(source) {
   }
 }
 
-/** The calls of the library, by what makes them: `Module`, or that of the addon for Node. */
-export function over(calls) {
+/** The calls of the library, made by a `Module`. */
+function over(calls) {
   return {
     version: calls.version(),
     pick(field, tags, options) {

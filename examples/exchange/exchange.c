@@ -43,9 +43,9 @@ static void put(sw_site *site, uint64_t now, const char *id, const char *lang, c
 /* The call is made once for its size, and once with room. */
 static text summary_of(sw_site *site) {
   sw_told told;
-  int32_t status = sw_site_summary(site, NULL, 0, &told);
+  int32_t status = sw_site_summary(site, SW_LABELS, NULL, 0, &told);
   text made = {malloc(told.len), told.len};
-  if (status == SW_FOUND && made.bytes) status = sw_site_summary(site, made.bytes, made.len, &told);
+  if (status == SW_FOUND && made.bytes) status = sw_site_summary(site, SW_LABELS, made.bytes, made.len, &told);
   if (status != SW_FOUND || !made.bytes) end_with("summary", status ? status : SW_NO_MEMORY, &told);
   return made;
 }
@@ -81,9 +81,10 @@ static uint64_t day_ahead(void) { return ((uint64_t)time(NULL) + 24 * 60 * 60) *
 static void take_all(sw_site *site, queue *door) {
   for (size_t at = 0; at < door->count; at++) {
     sw_told told;
-    int32_t status = sw_site_take(site, door->waiting[at].bytes, door->waiting[at].len, day_ahead(), &told);
+    text delta = door->waiting[at];
+    int32_t status = sw_site_take(site, SW_CHECK_OWN, delta.bytes, delta.len, day_ahead(), &told);
     if (status != SW_FOUND) end_with("take", status, &told);
-    free(door->waiting[at].bytes);
+    free(delta.bytes);
   }
   door->count = 0;
 }

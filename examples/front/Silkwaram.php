@@ -52,11 +52,11 @@ final class SilkwaramCalls
         int32_t sw_site_delete(sw_site *site, uint64_t now, TEXT id, TEXT lang, sw_told *told);
         int32_t sw_site_import(sw_site *site, uint64_t now, TEXT maps, sw_told *told);
         int32_t sw_site_update(sw_site *site, uint64_t now, TEXT old_maps, TEXT new_maps, sw_told *told);
-        int32_t sw_site_take(sw_site *site, TEXT delta, uint64_t not_after, sw_told *told);
-        int32_t sw_site_merge(sw_site *site, sw_site *other, sw_told *told);
+        int32_t sw_site_take(sw_site *site, uint32_t flags, TEXT delta, uint64_t not_after, sw_told *told);
+        int32_t sw_site_merge(sw_site *site, uint32_t flags, sw_site *other, uint64_t not_after, sw_told *told);
         int32_t sw_site_write(sw_site *site, OUT);
         int32_t sw_site_export(sw_site *site, OUT);
-        int32_t sw_site_summary(sw_site *site, OUT);
+        int32_t sw_site_summary(sw_site *site, uint32_t flags, OUT);
         int32_t sw_site_status(sw_site *site, OUT);
         int32_t sw_site_missing(sw_site *site, TEXT lang, OUT);
         int32_t sw_site_outdated(sw_site *site, TEXT lang, TEXT source, OUT);
@@ -268,6 +268,11 @@ final class SilkwaramWritten extends SilkwaramQuestions
 /** A site that is open. */
 final class Silkwaram extends SilkwaramQuestions
 {
+    /** Of `take` and `merge`: an edit that this site made and lacks is refused (30). */
+    public const CHECK_OWN = 8;
+    /** Of `summary`: a digest of each label too, so that taking the delta refuses what a merge refuses (13). */
+    public const LABELS = 16;
+
     private FFI\CData $site;
 
     /** Opens the site that a document holds. */
@@ -382,9 +387,9 @@ final class Silkwaram extends SilkwaramQuestions
 
     // Exchange.
 
-    public function summary(): string
+    public function summary(int $flags = 0): string
     {
-        return $this->calls->ask('sw_site_summary', $this->site)[0];
+        return $this->calls->ask('sw_site_summary', $this->site, $flags)[0];
     }
 
     public function deltaFor(string $summary): string
@@ -392,16 +397,17 @@ final class Silkwaram extends SilkwaramQuestions
         return $this->calls->ask('sw_site_delta', $this->site, $summary)[0];
     }
 
-    /** Joins a delta; a cell after the time `notAfter` refuses it, where that is not 0. */
-    public function take(string $delta, int $notAfter = 0): void
+    /** Joins a delta. If `notAfter` is not 0, a time after it is refused (29). */
+    public function take(string $delta, int $notAfter = 0, int $flags = 0): void
     {
-        $this->calls->act('sw_site_take', $this->site, $delta, self::moment($notAfter));
+        $this->calls->act('sw_site_take', $this->site, $flags, $delta, self::moment($notAfter));
     }
 
-    public function merge(self $other): void
+    /** Joins what another site has. If `notAfter` is not 0, a time after it is refused (29). */
+    public function merge(self $other, int $notAfter = 0, int $flags = 0): void
     {
         if ($other !== $this) {
-            $this->calls->act('sw_site_merge', $this->site, $other->site);
+            $this->calls->act('sw_site_merge', $this->site, $flags, $other->site, self::moment($notAfter));
         }
     }
 

@@ -80,27 +80,103 @@ static void language_maps(void) {
 static void deltas(void) {
   sw_site site = site_a();
   text delta = T(DELTA_OF_B), other = T("{\"cells\":[],\"kind\":\"delta\",\"to\":\"b\",\"version\":2}");
-  DONE(sw_site_take(&site, BYTES(delta), 6, &told), refused_in_row(29, 0));
-  DONE(sw_site_take(&site, BYTES(other), 0, &told), refused(15));
-  DONE(sw_site_take(&site, BYTES(T(CLASH)), 0, &told), refused_with(13, 0));
-  DONE(sw_site_take(&site, BYTES(T("{")), 0, &told), refused(19));
+  DONE(sw_site_take(&site, 0, BYTES(delta), 6, &told), refused_in_row(29, 0));
+  DONE(sw_site_take(&site, 0, BYTES(other), 0, &told), refused(15));
+  DONE(sw_site_take(&site, 0, BYTES(T(CLASH)), 0, &told), refused_with(13, 0));
+  DONE(sw_site_take(&site, 0, BYTES(T("{")), 0, &told), refused(19));
   HAS(&site, ENGLISH);
-  DONE(sw_site_take(&site, BYTES(delta), 7, &told), done);
+  DONE(sw_site_take(&site, 0, BYTES(delta), 7, &told), done);
   HAS(&site, BOTH);
-  DONE(sw_site_take(&site, BYTES(delta), 0, &told), done);
+  DONE(sw_site_take(&site, 0, BYTES(delta), 0, &told), done);
   HAS(&site, BOTH);
   sw_site_free(&site);
+}
+
+/* A site of this document. */
+static sw_site site_of(const char *document) {
+  sw_site site = {0};
+  DONE(sw_site_open((const uint8_t *)document, strlen(document), &site, &told), done);
+  return site;
+}
+
+/* The document of a site, or of a delta for it, with these rows. */
+#define SITE(name, rows) "{\"cells\":[" rows "],\"kind\":\"site\",\"site\":\"" name "\",\"version\":2}\n"
+#define DELTA_TO(name, rows) "{\"cells\":[" rows "],\"kind\":\"delta\",\"to\":\"" name "\",\"version\":2}\n"
+#define LATER "[\"m\",\"en\",6,\"a\",0,[\"Hi\"]]"
+
+/* An edit of the site itself that it lacks. */
+static void own_edits_in_deltas(void) {
+  sw_site site = site_a();
+  DONE(sw_site_take(&site, SW_CHECK_OWN, BYTES(T(DELTA_TO("b", LATER))), 0, &told), refused(15));
+  DONE(sw_site_take(&site, SW_CHECK_OWN, BYTES(T(DELTA_TO("a", LATER))), 5, &told), refused_in_row(29, 0));
+  DONE(sw_site_take(&site, SW_CHECK_OWN, BYTES(T(DELTA_TO("a", LATER))), 6, &told), refused_in_row(30, 0));
+  text second = T(DELTA_TO("a", "[\"m\",\"de\",9,\"b\",0,[\"Hallo\"]]," LATER));
+  DONE(sw_site_take(&site, SW_CHECK_OWN, BYTES(second), 0, &told), refused_in_row(30, 1));
+  DONE(sw_site_take(&site, SW_CHECK_OWN, BYTES(T(CLASH)), 0, &told), refused_with(13, 0));
+  HAS(&site, ENGLISH);
+  DONE(sw_site_take(&site, SW_CHECK_OWN, BYTES(T(DELTA_OF_B)), 0, &told), done);
+  HAS(&site, BOTH);
+  DONE(sw_site_take(&site, 0, BYTES(T(DELTA_TO("a", LATER))), 0, &told), done);
+  HAS(&site, "{\"m\":{\"en\":\"Hi\",\"fr\":\"Bonjour\"}}\n");
+  text earlier = T(DELTA_TO("a", "[\"m\",\"en\",5,\"a\",0,[\"Hello\"]]"));
+  DONE(sw_site_take(&site, SW_CHECK_OWN, BYTES(earlier), 0, &told), done);
+  sw_site_free(&site);
+}
+
+/* The limit, and the site's own edits, in a merge. */
+static void checked_merges(void) {
+  sw_site site = site_a(), other = site_of(SITE("b", "[\"m\",\"de\",5,\"b\",0,[\"Hallo\"]]," LATER));
+  DONE(sw_site_merge(&site, SW_CHECK_OWN, &other, 5, &told), refused_in_row(29, 1));
+  DONE(sw_site_merge(&site, SW_CHECK_OWN, &other, 6, &told), refused_in_row(30, 1));
+  HAS(&site, ENGLISH);
+  DONE(sw_site_merge(&other, SW_CHECK_OWN, &site, 5, &told), done);
+  DONE(sw_site_merge(&site, 0, &other, 6, &told), done);
+  HAS(&site, "{\"m\":{\"de\":\"Hallo\",\"en\":\"Hi\"}}\n");
+  sw_site_free(&site);
+  sw_site_free(&other);
+}
+
+/* A summary that shows labels, and the delta for it. The digests are FNV-1a's of `["a"]` and of `null`. */
+#define SHOWN                                                                                               \
+  "{\"kind\":\"summary\",\"labels\":[\"2b288c997252f102\",\"5b9bc4ba528108e4\"],\"owner\":\"a\","             \
+  "\"stamps\":[[\"m\",\"en\",5,\"a\",0],[\"n\",\"en\",6,\"a\",0]],\"version\":2}\n"
+#define LACKED DELTA_TO("a", "[\"m\",\"en\",5,\"a\",0,[\"b\"]]")
+static void labels_shown(void) {
+  sw_site site = site_of(SITE("a", "[\"m\",\"en\",5,\"a\",0,[\"a\"]],[\"n\",\"en\",6,\"a\",0,null]"));
+  sw_site other = site_of(SITE("b", "[\"m\",\"en\",5,\"a\",0,[\"b\"]],[\"n\",\"en\",6,\"a\",0,null]"));
+  text summary = T(SHOWN), delta = T(LACKED);
+  ROW(ROOM, sw_site_summary(&site, SW_LABELS, out, ROOM, &told), answers(SW_FOUND, 0, SHOWN));
+  ROW(ROOM, sw_site_delta(&other, BYTES(summary), out, ROOM, &told), answers(SW_FOUND, 0, LACKED));
+  DONE(sw_site_take(&site, 0, BYTES(delta), 0, &told), refused_with(13, 0));
+  sw_site_free(&site);
+  sw_site_free(&other);
+}
+
+/* Flags that are of no exchange, or of another call. */
+static void unknown_flags(void) {
+  static const uint32_t of_no_take[] = {1, 2, 4, 16, 24, 32, UINT32_MAX};
+  static const uint32_t of_no_summary[] = {1, 2, 4, 8, 24, 32, UINT32_MAX};
+  sw_site site = site_a(), other = {0};
+  HOLDS(sw_site_share(&site, &other) == SW_FOUND);
+  for (size_t it = 0; it < sizeof of_no_take / sizeof *of_no_take; it++) {
+    DONE(sw_site_take(&site, of_no_take[it], BYTES(T(DELTA_OF_B)), 0, &told), usage);
+    DONE(sw_site_merge(&site, of_no_take[it], &other, 0, &told), usage);
+    ROW(ROOM, sw_site_summary(&site, of_no_summary[it], out, ROOM, &told), usage);
+  }
+  HAS(&site, ENGLISH);
+  sw_site_free(&site);
+  sw_site_free(&other);
 }
 
 static void shares(void) {
   sw_site site = site_a(), share = {0};
   HOLDS(sw_site_share(&site, &share) == SW_FOUND);
-  DONE(sw_site_take(&site, BYTES(T(DELTA_OF_B)), 0, &told), done);
+  DONE(sw_site_take(&site, 0, BYTES(T(DELTA_OF_B)), 0, &told), done);
   HAS(&site, BOTH);
   HAS(&share, ENGLISH);
   ROW(ROOM, sw_site_changes(&share, &site, out, ROOM, &told),
       answers(SW_FOUND, 0, "changes 1\n[\"m\",\"fr\",null,[7,\"b\",0,[\"Bonjour\"]]]\n"));
-  DONE(sw_site_merge(&share, &site, &told), done);
+  DONE(sw_site_merge(&share, 0, &site, 0, &told), done);
   HAS(&share, BOTH);
   ROW(ROOM, sw_site_changes(&share, &site, out, ROOM, &told), answers(SW_NOTHING, 0, "changes 0\n"));
   sw_site_free(&site);
@@ -111,7 +187,7 @@ static void clashes(void) {
   sw_site site = site_a(), other = {0};
   DONE(sw_site_new(BYTES(T("a")), &other, &told), done);
   DONE(sw_site_put(&other, 5, BYTES(T("m")), BYTES(T("en")), BYTES(T("Hi")), &told), done);
-  DONE(sw_site_merge(&site, &other, &told), refused_with(13, 0));
+  DONE(sw_site_merge(&site, 0, &other, 0, &told), refused_with(13, 0));
   HAS(&site, ENGLISH);
   sw_site_free(&site);
   sw_site_free(&other);
@@ -121,12 +197,12 @@ static void documents(void) {
   sw_site site = site_a();
   text summary = T(SUMMARY_OF_A);
   ROW(ROOM, sw_site_write(&site, out, ROOM, &told), answers(SW_FOUND, 0, SITE_A));
-  ROW(ROOM, sw_site_summary(&site, out, ROOM, &told), answers(SW_FOUND, 0, SUMMARY_OF_A));
+  ROW(ROOM, sw_site_summary(&site, 0, out, ROOM, &told), answers(SW_FOUND, 0, SUMMARY_OF_A));
   ROW(ROOM, sw_site_delta(&site, BYTES(summary), out, ROOM, &told),
       answers(SW_FOUND, 0, "{\"cells\":[],\"kind\":\"delta\",\"to\":\"a\",\"version\":2}\n"));
   ROW(ROOM, sw_site_delta(&site, BYTES(T(SITE_A)), out, ROOM, &told), refused(20));
   for (size_t room = 0; room <= summary.len; room++)
-    ROW(room, sw_site_summary(&site, room ? out : NULL, room, &told), answers(SW_FOUND, 0, SUMMARY_OF_A));
+    ROW(room, sw_site_summary(&site, 0, room ? out : NULL, room, &told), answers(SW_FOUND, 0, SUMMARY_OF_A));
   sw_site_free(&site);
 }
 
@@ -136,7 +212,7 @@ static void questions(void) {
   ROW(ROOM, sw_site_missing(&site, BYTES(T("en")), out, ROOM, &told), answers(SW_NOTHING, 0, "{}\n"));
   ROW(ROOM, sw_site_missing(&site, BYTES(T("e n")), out, ROOM, &told), refused_at(3, 0));
   ROW(ROOM, sw_site_outdated(&site, BYTES(T("en")), BYTES(T("fr")), out, ROOM, &told), answers(SW_NOTHING, 0, "{}\n"));
-  DONE(sw_site_take(&site, BYTES(T(DELTA_OF_B)), 0, &told), done);
+  DONE(sw_site_take(&site, 0, BYTES(T(DELTA_OF_B)), 0, &told), done);
   ROW(ROOM, sw_site_outdated(&site, BYTES(T("en")), BYTES(T("fr")), out, ROOM, &told), answers(SW_FOUND, 0, BOTH));
   ROW(ROOM, sw_site_outdated(&site, BYTES(T("e n")), BYTES(T("a")), out, ROOM, &told), refused_at(3, 0));
   ROW(ROOM, sw_site_outdated(&site, BYTES(T("en")), BYTES(T("a")), out, ROOM, &told), refused(4));
@@ -149,13 +225,13 @@ static void closed_handles(void) {
   text m = T("m"), en = T("en"), maps = T(ENGLISH);
   DONE(sw_site_put(&none, 6, BYTES(m), BYTES(en), BYTES(m), &told), usage);
   DONE(sw_site_delete(&none, 6, BYTES(m), BYTES(en), &told), usage);
-  DONE(sw_site_merge(&none, &site, &told), usage);
-  DONE(sw_site_merge(&site, &none, &told), usage);
-  DONE(sw_site_take(&none, BYTES(T(DELTA_OF_B)), 0, &told), usage);
+  DONE(sw_site_merge(&none, 0, &site, 0, &told), usage);
+  DONE(sw_site_merge(&site, 0, &none, 0, &told), usage);
+  DONE(sw_site_take(&none, 0, BYTES(T(DELTA_OF_B)), 0, &told), usage);
   DONE(sw_site_import(&none, 6, BYTES(maps), &told), usage);
   DONE(sw_site_update(&none, 6, BYTES(maps), BYTES(maps), &told), usage);
   ROW(ROOM, sw_site_write(&none, out, ROOM, &told), usage);
-  ROW(ROOM, sw_site_summary(&none, out, ROOM, &told), usage);
+  ROW(ROOM, sw_site_summary(&none, 0, out, ROOM, &told), usage);
   ROW(ROOM, sw_site_status(&none, out, ROOM, &told), usage);
   ROW(ROOM, sw_site_delta(&none, BYTES(T(SUMMARY_OF_A)), out, ROOM, &told), usage);
   ROW(ROOM, sw_site_export(&none, out, ROOM, &told), usage);
@@ -193,6 +269,10 @@ int main(void) {
   long_texts();
   language_maps();
   deltas();
+  own_edits_in_deltas();
+  checked_merges();
+  labels_shown();
+  unknown_flags();
   shares();
   clashes();
   documents();

@@ -25,7 +25,15 @@ foreach ([fn () => $paris->update([], ["m" => ["en" => array_fill(0, 65, "x")]],
         echo json_encode($places), $it->getMessage(), "\n";
     }
 }
-$paris->merge($tokyo);
+foreach ([fn () => $paris->merge($tokyo, 8), fn () => $share->take($paris->deltaFor($share->summary()), 0,
+    Silkwaram::CHECK_OWN), fn () => $share->merge($paris, 0, Silkwaram::CHECK_OWN)] as $wrong) {
+    try {
+        $wrong();
+    } catch (Refused $it) {
+        echo $it->getMessage(), "\n";
+    }
+}
+$paris->merge($tokyo, 9, Silkwaram::CHECK_OWN);
 echo json_encode([$share->export(), $paris->export(), $tokyo->missing("fr"),
     $paris->outdated("en", "ja"), $paris->changes($tokyo), count($share->changes($paris)),
     $paris->status(), $paris->pick("en", ["en-US"], "", Silkwaram::WIDEN),

@@ -7,7 +7,8 @@ It makes COUNT sequences, always the same ones of a SEED, of some steps at three
 each step the document of the site that was edited has to be, byte for byte, what the command makes
 of the document before; where one refuses, the other has to refuse with the same number and places,
 and the site stays. Some edits are made in place, some beside a share, which has to keep its
-document. Now and then all that is asked of a site is compared with what the command prints.
+document. Now and then a site is put back to an older document, and all that is asked of a site is
+compared with what the command prints.
 """
 import concurrent.futures
 import json
@@ -25,7 +26,7 @@ from silkwaram import Refused, Site  # noqa: E402
 
 NAMES = ["paris", "tokyo", "a-1"]
 LAST_TIME = 2**64 - 1
-STEPS = ["put"] * 6 + ["delete"] * 2 + ["import", "update", "take", "take", "take_late", "merge", "merge"]
+STEPS = ["put"] * 6 + ["delete"] * 2 + ["import", "update"] + ["take"] * 3 + ["merge"] * 2 + ["put_back"]
 FAULT = re.compile(
     rb"refused (\d+): .*?(?: at (\d+))?(?: in row (\d+))?(?: of document (\d+))?\n$"
 )
@@ -74,6 +75,7 @@ class Sequence:
         self.command, self.rng = command, random.Random(f"{SEED} sequence {seed}")
         self.sites = [Site.new(name) for name in NAMES]
         self.documents = [site.to_bytes() for site in self.sites]
+        self.older = list(self.documents)
         self.now = 1
 
     def fault(self, what, *more):
@@ -122,18 +124,31 @@ class Sequence:
             old, new = maps_of(rng), maps_of(rng)
             wanted = self.command("update", f"--now={now}", documents=document + old + new)
             self.edited(place, lambda: site.update(old, new, now), wanted)
+        elif kind == "put_back":
+            site.reload(self.older[place])
+            self.documents[place], self.older[place] = self.older[place], document
         elif kind == "merge":
-            wanted = self.command("sync", documents=document + self.documents[other])
-            if isinstance(wanted, bytes):
-                wanted = wanted.split(b"\n")[0] + b"\n"
-            self.edited(place, lambda: site.merge(self.sites[other]), wanted)
+            words, checks = self.checks()
+            wanted = self.command("merge", *words, documents=document + self.documents[other])
+            self.edited(place, lambda: site.merge(self.sites[other], **checks), wanted)
         else:
             addressee = place if rng.random() < 0.9 else other
-            delta = self.sites[other].delta_for(self.sites[addressee].summary())
-            limit = [] if kind == "take" else [f"--not-after={max(self.now - 3, 1)}"]
-            wanted = self.command("take", *limit, documents=document + delta)
-            not_after = max(self.now - 3, 1) if limit else None
-            self.edited(place, lambda: site.take(delta, not_after), wanted)
+            shown = self.sites[addressee].summary(labels=rng.random() < 0.5)
+            delta = self.sites[other].delta_for(shown)
+            words, checks = self.checks()
+            wanted = self.command("take", *words, documents=document + delta)
+            self.edited(place, lambda: site.take(delta, **checks), wanted)
+
+    def checks(self):
+        """What an exchange tests: the words of the command, and those of the library."""
+        words, checks = [], {}
+        if self.rng.random() < 0.3:
+            checks["not_after"] = max(self.now - 3, 1)
+            words.append(f"--not-after={checks['not_after']}")
+        if self.rng.random() < 0.5:
+            checks["check_own"] = True
+            words.append("--check-own")
+        return words, checks
 
     def a_language(self, document):
         """A language, mostly one that a site has."""
@@ -148,6 +163,7 @@ class Sequence:
         with site.share() as share:
             pairs = [
                 ("summary", share.summary(), ["summary"], document),
+                ("summary", share.summary(labels=True), ["summary", "--labels"], document),
                 ("export", share.export(), ["export"], document),
                 ("missing", share.missing(lang), ["missing", "--lang", lang], document),
                 (

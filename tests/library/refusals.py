@@ -135,6 +135,17 @@ def cases():
         yield "take", ["take"], PARIS + it, on(PARIS, lambda site, it=it: site.take(it))
     late = delta(cell("a", site="oslo", time=3), cell("b", site="oslo", time=9))
     yield "take", ["take", "--not-after=8"], PARIS + late, on(PARIS, lambda site: site.take(late, 8))
+    own = delta(cell("a", site="oslo", time=3), cell("n", time=9))
+    yield "take", ["take", "--check-own"], PARIS + own, on(PARIS, lambda site: site.take(own, check_own=True))
+    oslo = document(cell("a", site="oslo", time=3), cell("n", time=9), site="oslo")
+    yield (
+        "merge", ["merge", "--check-own"], PARIS + oslo,
+        on(PARIS, lambda site: site.merge(Site.open(oslo), check_own=True)),
+    )  # fmt: skip
+    yield (
+        "merge", ["merge", "--not-after=8"], PARIS + oslo,
+        on(PARIS, lambda site: site.merge(Site.open(oslo), 8)),
+    )  # fmt: skip
     for it in [
         b"{", PARIS, summary(version=3), summary(["m", "e n", 5, "oslo", 0]), summary(["m", "en", 5, "Oslo", 0]),
     ]:  # fmt: skip
@@ -164,7 +175,7 @@ def rule_of(lexicat, number):
 
 def texts_of(page):
     """The text of each number on the page; where the library has another, it is named below."""
-    texts = {int(number): text for number, text in re.findall(r"^\| (\d+) \| `([^`]+)`", page, re.M)}
+    texts = {int(number): text for number, text in re.findall(r"^### (\d+), .*\n\n`([^`]+)`", page, re.M)}
     below = page.split("\n## The library\n")[1]
     return {**texts, **{int(number): text for number, text in re.findall(r"of (\d+) `([^`]+)`", below)}}
 

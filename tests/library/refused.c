@@ -51,11 +51,11 @@ ACT(puts_held, sw_site_put(&it->site, 9, BYTES(T("m")), BYTES(T("en")), BYTES(T(
 ACT(deletes, sw_site_delete(&it->site, 9, BYTES(T(LONG_ID)), BYTES(T("en")), TOLD))
 ACT(imports, sw_site_import(&it->site, 9, BYTES(T(MAPS)), TOLD))
 ACT(updates, sw_site_update(&it->site, 9, BYTES(T("{\"m\":{\"en\":[\"Hello\",\"Hi\"]}}")), BYTES(T(MAPS)), TOLD))
-ACT(takes, sw_site_take(&it->site, BYTES(T(DELTA)), 100, TOLD))
-ACT(merges, sw_site_merge(&it->site, &it->other, TOLD))
+ACT(takes, sw_site_take(&it->site, SW_CHECK_OWN, BYTES(T(DELTA)), 100, TOLD))
+ACT(merges, sw_site_merge(&it->site, SW_CHECK_OWN, &it->other, 100, TOLD))
 ACT(writes, sw_site_write(&it->site, ANSWER))
 ACT(exports, sw_site_export(&it->site, ANSWER))
-ACT(sums_up, sw_site_summary(&it->site, ANSWER))
+ACT(sums_up, sw_site_summary(&it->site, SW_LABELS, ANSWER))
 ACT(reports, sw_site_status(&it->site, ANSWER))
 ACT(misses, sw_site_missing(&it->site, BYTES(T("fr")), ANSWER))
 ACT(dates, sw_site_outdated(&it->site, BYTES(T(LONG_TAG)), BYTES(T("en")), ANSWER))
@@ -196,7 +196,7 @@ static void begin(trial *it, int way) {
     exit(3);
   if (way != ALONE && sw_site_share(&it->site, &it->share)) exit(3);
   /* (a merge with itself changes nothing, and leaves the state before, which its share then lets go) */
-  if (way == SPARED && (sw_site_merge(&it->site, &it->share, &told) || sw_site_share(&it->site, &it->share))) exit(3);
+  if (way == SPARED && (sw_site_merge(&it->site, 0, &it->share, 0, &told) || sw_site_share(&it->site, &it->share))) exit(3);
   memset(it->out, UNTOUCHED, ROOM);
 }
 

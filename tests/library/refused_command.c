@@ -49,6 +49,7 @@ static const struct {
     {{"outdated", "--lang", "de", "--source", "en"}, ONE},
     {{"changes"}, ONE TWO},
     {{"summary"}, ONE},
+    {{"summary", "--labels"}, ONE},
     {{"delta"}, ONE SUMMARY},
     {{"take", "--not-after", "8"}, ONE DELTA},
     {{"take", "--not-after", "7"}, ONE DELTA},

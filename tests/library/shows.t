@@ -31,6 +31,8 @@ check 'the shared library shows the calls of the header alone' \
     shows "$library" silkwaram.h --dynamic
 check 'the archive of the command shows its call alone' \
     shows build/lib/libsilkwaram-command.a silkwaram_command.h --extern-only
+check 'the shared library of the command shows its call alone' \
+    shows build/lib/libsilkwaram-command.so silkwaram_command.h --dynamic
 check 'the shared library has its name' has_soname
 if [ -x "$lexicat" ]; then
     check 'the header has the version of the command' has_one_version

@@ -7,7 +7,7 @@
 
 #include "questions.h"
 
-enum { ALLOWED = 96 * 1024, COMMAND_ALLOWED = 160 * 1024, MEASURED = 4 * ALLOWED, GUARD = 4096, LEVELS = 127, ROOM = 256 };
+enum { ALLOWED = 128 * 1024, COMMAND_ALLOWED = 160 * 1024, MEASURED = 4 * ALLOWED, GUARD = 4096, LEVELS = 127, ROOM = 256 };
 
 #define PARIS \
   "{\"cells\":[[\"m\",\"en\",5,\"paris\",0,[\"Hello\"]]],\"kind\":\"site\",\"site\":\"paris\",\"version\":2}\n"
@@ -75,11 +75,11 @@ static void put_shared(void) {
 
 MAKES(import, found(sw_site_import(&site, 9, BYTES(T(MAPS)), &told)))
 MAKES(update, found(sw_site_update(&site, 10, BYTES(T(MAPS)), BYTES(T("{\"m\":{\"en\":\"Good day\"}}")), &told)))
-MAKES(take, found(sw_site_take(&site, BYTES(T(DELTA)), 100, &told)))
-MAKES(merge, found(sw_site_merge(&site, &other, &told)))
+MAKES(take, found(sw_site_take(&site, SW_CHECK_OWN, BYTES(T(DELTA)), 100, &told)))
+MAKES(merge, found(sw_site_merge(&site, SW_CHECK_OWN, &other, 100, &told)))
 
 REPORT(write, &site)
-REPORT(summary, &site)
+REPORT(summary, &site, SW_LABELS)
 REPORT(status, &site)
 REPORT(export, &site)
 REPORT(delta, &site, BYTES(T(SUMMARY)))
@@ -105,7 +105,7 @@ static void share(void) {
 }
 
 MAKES(open_deep, sw_site_open(BYTES(deep), &site, &told))
-MAKES(take_deep, sw_site_take(&site, BYTES(deep), 0, &told))
+MAKES(take_deep, sw_site_take(&site, 0, BYTES(deep), 0, &told))
 MAKES(import_deep, sw_site_import(&site, 9, BYTES(deep), &told))
 MAKES(update_deep, sw_site_update(&site, 9, BYTES(T("{}")), BYTES(deep), &told))
 ASKS(delta_deep, sw_site_delta(&site, BYTES(deep), out, ROOM, &told))

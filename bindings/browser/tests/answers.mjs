@@ -59,11 +59,11 @@ export function compare(sw, questions) {
   return `${questions.length} questions (${each.join(', ')}); 0 differ from the command's`;
 }
 
-// Options with their numbers as BigInts.
+// Options with their numbers, which are texts, as BigInts.
 function withNumbers(words) {
   return words.map((it) =>
     it && typeof it === 'object'
-      ? Object.fromEntries(Object.entries(it).map(([name, number]) => [name, BigInt(number)]))
+      ? Object.fromEntries(Object.entries(it).map(([name, to]) => [name, typeof to === 'string' ? BigInt(to) : to]))
       : it,
   );
 }
@@ -72,7 +72,7 @@ function withNumbers(words) {
 function made(sites, { site, call, words, refused, document, wanted }) {
   const own = sites[site];
   const other = sites[1 - site];
-  const given = call === 'merge' || call === 'changes' ? [other] : withNumbers(words);
+  const given = [...(call === 'merge' || call === 'changes' ? [other] : []), ...withNumbers(words)];
   const answer = answered(() => own[call](...given));
   if (document === undefined) return [answer, wanted];
   return [[answer ?? null, own.write()], [refused, document]];

@@ -100,23 +100,24 @@ class Sequence:
     def exchange(self, site):
         rng = self.rng
         own, other = self.sites[site], self.sites[1 - site]
-        call = "merge" if rng.random() < 0.4 else "take"
-        if call == "merge":
-            made = self.command.run(["sync"], own, other)
-            self.done(site, "merge", [], made if isinstance(made, dict) else made.split(b"\n")[0] + b"\n")
+        limit, checks_own = rng.choice([0, 0, 5, 2**53 + 1]), rng.random() < 0.5
+        checks = [*(["--not-after", str(limit)] if limit else []), *(["--check-own"] if checks_own else [])]
+        options = {"notAfter": str(limit), "checkOwn": checks_own}
+        if rng.random() < 0.4:
+            made = self.command.run(["merge", *checks], own, other)
+            self.done(site, "merge", [options], made)
             return
         # (now and then a delta for another site, or none at all)
         of = other if rng.random() < 0.1 else own
-        delta = self.command.run(["delta"], other, self.command.run(["summary"], of))
+        shows = rng.choice([[], ["--labels"]])
+        delta = self.command.run(["delta"], other, self.command.run(["summary", *shows], of))
         if rng.random() < 0.1:
             delta = OF.spoiled(rng, delta) if json.loads(delta)["cells"] else delta[:-3]
-        limit = rng.choice([0, 0, 5, 2**53 + 1])
-        words = ["take", *(["--not-after", str(limit)] if limit else [])]
         try:
             text = delta.decode()
         except UnicodeDecodeError:
             return
-        self.done(site, "take", [text, {"notAfter": str(limit)}], self.command.run(words, own, delta))
+        self.done(site, "take", [text, options], self.command.run(["take", *checks], own, delta))
 
     def asked(self, call, words, command, *documents, read=bytes.decode):
         made = self.command.run(command, *documents)
@@ -127,6 +128,7 @@ class Sequence:
         rng = self.rng
         own, other = self.sites
         self.asked("summary", [], ["summary"], own)
+        self.asked("summary", [{"labels": True}], ["summary", "--labels"], own)
         self.asked("export", [], ["export"], own, read=json.loads)
         self.asked("status", [], ["status"], own, read=status)
         self.asked("deltaFor", [self.command.run(["summary"], other).decode()], ["delta"], own,

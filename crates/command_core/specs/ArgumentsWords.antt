@@ -192,9 +192,9 @@ changes_app = new_app (codes "changes")
 abbrev pub update_app : App
 update_app = with_rule (new_app (codes "update")) now_rule
 
--- `summary`, without arguments
+-- `summary [--labels]`
 abbrev pub summary_app : App
-summary_app = new_app (codes "summary")
+summary_app = with_rule (new_app (codes "summary")) (flag_rule (codes "labels"))
 
 -- `delta`, without arguments
 abbrev pub delta_app : App

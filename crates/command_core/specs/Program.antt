@@ -62,9 +62,8 @@ abbrev pub ReportsBy : {W F : Type 0} → ErrorKind → Writer W → Writer F �
 ReportsBy kind writer faults status =
     EndsForMemory writer faults status ⊎ ((kind ≢ OutOfMemory) × Reports kind writer faults status)
 
--- what is done at these words, by the kinds of fault that clap finds in them and the command that
--- it
--- meets
+-- what is done at these words, by the kinds of fault that clap finds in them and by the command
+-- that it meets
 abbrev pub Does : {R W F : Type 0} → Kinds → Option (Text × List Row) → Streams R W F → ℕ → Type 0
 Does [] met run status = ActsBy met run status
 Does (k ∷ ks) met run status = IsUnread run.reader

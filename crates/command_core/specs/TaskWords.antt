@@ -7,6 +7,8 @@ use Rattle.clap.specs.Words.{Row, Text, first_of, one_of}
 use Rattle.site_docs.specs.declared.checks.Checks.{Checks}
 use Rattle.site_docs.specs.declared.checks.OwnEdits.{OwnEdits}
 use Rattle.site_docs.specs.declared.checks.OwnEdits.TheVariants.{Checked, Unchecked}
+use Rattle.summary_docs.specs.declared.summaries.Shows.{Shows}
+use Rattle.summary_docs.specs.declared.summaries.Shows.TheVariants.{Labels, Stamps}
 use Rattle.front_core.specs.declared.exchange.View.{View as SiteView}
 use Rattle.front_core.specs.declared.exchange.View.TheVariants as view
 use Rattle.command_core.specs.TaskQuestionWords.{FilterWords, LookupWords, OutdatedWords}
@@ -92,6 +94,10 @@ checks_words limit rows = record {
   own_edits = own_edits_of (is_given (first_of (codes "check-own") rows));
 }
 
+-- what a summary shows: labels too with `--labels`
+abbrev pub shows_of : Bool → Shows
+shows_of shows_labels = if shows_labels then Labels else Stamps
+
 -- the task of the command of this name with these numbers, or none: it is no command of the
 -- program, a word is missing, or two do not go together
 abbrev pub task_words : Text → Numbers → List Row → Option TaskWords
@@ -111,7 +117,8 @@ task_words name numbers rows =
     else (if bytes_eq name (codes "lookup") then option_map Lookup (lookup_words rows)
     else (if bytes_eq name (codes "bundle") then
     option_map Bundle (preference_words (codes "field") rows)
-    else (if bytes_eq name (codes "summary") then Some (View view.Summary)
+    else (if bytes_eq name (codes "summary") then
+    Some (View (view.Summary (shows_of (is_given (first_of (codes "labels") rows)))))
     else (if bytes_eq name (codes "delta") then Some (Document document.Delta)
     else (if bytes_eq name (codes "take") then
     Some (Document (document.Take (checks_words numbers.not_after rows)))

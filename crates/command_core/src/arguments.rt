@@ -134,6 +134,17 @@ pub(crate) fn check_own<'a>(alloc: Global) -> Arg<'a>
     )
 }
 
+/// `--labels`, which takes no value.
+pub(crate) fn labels<'a>(alloc: Global) -> Arg<'a>
+    ensures { IsArgument (flag_rule (codes "labels")) result }
+{
+    flag(
+        alloc,
+        "labels",
+        "Print a digest of each label too, so that the delta has each label that differs",
+    )
+}
+
 /// The number of a refusal.
 pub(crate) fn number<'a>(alloc: Global, numbers: &'a [&'a str]) -> Arg<'a>
     ensures { IsArgument (number_rule numbers.entry) result }

@@ -8,7 +8,8 @@ ghost use Rattle.command_core.specs.ArgumentsWords.{labels_app};
 ghost use Rattle.command_core.specs.ArgumentsWords.{lookup_app, merge_app, missing_app};
 ghost use Rattle.command_core.specs.ArgumentsWords.{new_site_app};
 ghost use Rattle.command_core.specs.ArgumentsWords.{outdated_app, pick_app, put_app, questions_app};
-ghost use Rattle.command_core.specs.ArgumentsWords.{sites_app, sync_app, take_app, update_app};
+ghost use Rattle.command_core.specs.ArgumentsWords.{sites_app, summary_app, sync_app, take_app};
+ghost use Rattle.command_core.specs.ArgumentsWords.{update_app};
 
 use crate::arguments::{self, described, reading, with_command};
 use clap::Command;
@@ -92,15 +93,7 @@ pub(crate) fn with_exchange<'a>(
 ) -> Result<Command<'a>, AllocError>
     ensures { IfOk result (λ c. app_of c ≡ exchange_app (app_of program.entry) numbers.entry) }
 {
-    let summary = reading(
-        alloc,
-        "summary",
-        "lexicat summary < SITE",
-        "Prints the stamps of a site's cells, by which another site finds what this one lacks",
-        "Reads a site document.\n\
-            Example: lexicat new --site tokyo | lexicat summary > summary.json",
-    );
-    let program = with_command(Ok(program), Ok(summary));
+    let program = with_command(Ok(program), summary(alloc));
     let delta = reading(
         alloc,
         "delta",
@@ -313,6 +306,23 @@ fn bundle<'a>(alloc: Global, schemes: &'a [&'a str]) -> Result<Command<'a>, Allo
             Example: lexicat bundle --default en \"fr-CA, de;q=0.5\" < three.json",
     );
     arguments::with_preferences(alloc, command, schemes, "field", "FIELD")
+}
+
+/// `summary [--labels]`
+fn summary<'a>(alloc: Global) -> Result<Command<'a>, AllocError>
+    ensures { IfOk result (IsCommand summary_app) }
+{
+    reading(
+        alloc,
+        "summary",
+        "lexicat summary [--labels] < SITE",
+        "Prints the stamps of a site's cells, by which another site finds what this one lacks",
+        "Reads a site document. With --labels it prints a digest of each label too. The delta for \
+            such a summary also has each cell whose label differs under the same stamp, so that \
+            taking it refuses what a merge refuses.\n\
+            Example: lexicat new --site tokyo | lexicat summary > summary.json",
+    )
+    .arg(arguments::labels(alloc))
 }
 
 /// `take [--not-after N] [--check-own]`

@@ -9,6 +9,7 @@ ghost use Rattle.command_core.specs.TaskFieldWords as spec;
 ghost use Rattle.command_core.specs.OutputStreams.{reads, streams, writes};
 ghost use Rattle.command_core.specs.TaskWords.{Edit, GivesNumber, GivesNumbers, GivesTask};
 ghost use Rattle.command_core.specs.TaskWords.{Replay, checks_words, own_edits_of, pick_task};
+ghost use Rattle.command_core.specs.TaskWords.{shows_of};
 ghost use Rattle.command_core.specs.TaskValues.{preference_values, task_values};
 
 use crate::documents::DocumentTask;
@@ -19,7 +20,7 @@ use crate::output::finish;
 use crate::questions::ask;
 use crate::{documents, edits, explaining, sites, status};
 use clap::ArgMatches;
-use docs_core::{Checks, OwnEdits, Sink, Source};
+use docs_core::{Checks, OwnEdits, Shows, Sink, Source};
 use front_core::words::{filter_answer, pick_answer};
 use front_core::{Field, Filter, FrontFault, Lookup, Missing, Outdated, Preferences, View};
 use nego_core::{Malformed, Scheme, Widening};
@@ -134,7 +135,7 @@ fn task_of<'m, 'a>(name: &str, matches: &'m ArgMatches<'a>) -> Option<Task<'m, '
             preferences_of(matches, "field")?,
         )),
         "bundle" => Some(Task::Bundle(preferences_of(matches, "field")?)),
-        "summary" => Some(Task::View(View::Summary)),
+        "summary" => Some(Task::View(View::Summary(shows_of(is_given(matches, "labels"))))),
         "delta" => Some(Task::Document(DocumentTask::Delta)),
         "take" => Some(Task::Document(DocumentTask::Take(checks_of(numbers.not_after, matches)))),
         "sync" => Some(Task::Sync(checks_of(numbers.not_after, matches))),
@@ -317,6 +318,17 @@ fn own_edits_of(is_checked: bool) -> OwnEdits
         OwnEdits::Checked
     } else {
         OwnEdits::Unchecked
+    }
+}
+
+/// What a summary shows.
+fn shows_of(shows_labels: bool) -> Shows
+    ensures { result ≡ shows_of shows_labels }
+{
+    if shows_labels {
+        Shows::Labels
+    } else {
+        Shows::Stamps
     }
 }
 

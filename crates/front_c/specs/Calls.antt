@@ -3,6 +3,7 @@ use Rattle.std.specs.Prelude.{◌≡◌, ◌≢◌, ◌⊎◌, ℕ, ℤ, None, O
 use Rattle.std.specs.Prelude.{Result, option_map}
 use Rattle.cata_core.specs.Site.{SiteState}
 use Rattle.site_docs.specs.Reading.{ReadsAsSite}
+use Rattle.site_docs.specs.declared.checks.Checks.{Checks}
 use Rattle.front_core.specs.Ask.{IsAnswer, IsNoMemory, RefusesAnswer, RefusesDocument}
 use Rattle.front_core.specs.Ask.{AnswersBundle, AnswersFilter, AnswersLookup, IsFilter, IsLookup}
 use Rattle.front_core.specs.Ask.{IsLookupText, RefusesFilter, RefusesLookup}
@@ -21,9 +22,10 @@ use Rattle.text_docs.specs.Message.{IsCompactSite}
 use Rattle.front_core.specs.Translate.{IsOutdated, RefusesMissing, RefusesOutdated}
 use Rattle.front_core.specs.declared.answer.Answer.{Answer}
 use Rattle.front_core.specs.declared.exchange.View.{View}
+use Rattle.front_core.specs.declared.exchange.View.TheVariants.{Summary}
 use Rattle.front_core.specs.declared.fault.FrontFault.{FrontFault}
 use Rattle.front_core.specs.declared.fault.FrontFault.TheVariants.{NoMemory}
-use Rattle.front_c.specs.Question.{default_of, field_of, limit_of, lookup_field_of}
+use Rattle.front_c.specs.Question.{checks_of, default_of, field_of, lookup_field_of, shows_of}
 use Rattle.front_c.specs.Reporting.{Ends, Reports, ReportsAnswer, ReportsDone, ReportsEither}
 use Rattle.front_c.specs.Reporting.{ReportsFault, ReportsLabelText, ReportsNothing, ReportsPicked}
 use Rattle.front_c.specs.Reporting.{ReportsRead, ReportsText, ReportsUsage, Text, answered}
@@ -111,6 +113,12 @@ ReportsOutdated site lang source =
 -- a text of the handle's whole site
 abbrev pub ReportsView : View → Option SiteState → Ends
 ReportsView view site = ReportsAsked site (ShowsView view) IsNoMemory
+
+-- the summary of the handle's site, with labels or without; unknown flags are reported as usage
+abbrev pub ReportsSummary : ℕ → Option SiteState → Ends
+ReportsSummary flags site old new told status =
+    MatchOption (shows_of flags) (ReportsUsage old new told status)
+    (λ shows. ReportsView (Summary shows) site old new told status)
 
 -- the cells of the handle's site that the summary lacks, for its owner
 abbrev pub ReportsDelta : Option SiteState → Text → Ends
@@ -210,6 +218,10 @@ abbrev pub Leaving : Edits → (SiteState → FrontFault → Type 0) → Refusin
 Leaving Leaves Refuses old new fault =
     Leaves old new × (fault ≢ NoMemory → new ≡ old) × OrNoMemory (Refuses old) fault
 
+-- the handle is as it was, and this is reported as usage
+abbrev pub KeepsOnUsage : Option SiteState → Option SiteState → Reports
+KeepsOnUsage old new told status = (new ≡ old) × (status ≡ usage) × (told ≡ answered 0 0)
+
 -- a handle that is not open is reported as usage; else it has the site that the edit makes, or the
 -- one that a refused edit leaves
 abbrev pub ReportsEdited : Edits → Refusing → Option SiteState → Option SiteState → Reports
@@ -230,17 +242,25 @@ abbrev pub ReportsDeleted : ℕ → Text → Text → Option SiteState → Optio
 ReportsDeleted now id lang =
     ReportsEdited (IsDeleted now id lang) (Keeps (RefusesDelete now id lang))
 
--- the site with a delta for it taken; out of memory may leave it partly joined
-abbrev pub ReportsTaken : Text → ℕ → Option SiteState → Option SiteState → Reports
-ReportsTaken delta limit =
-    ReportsEdited (IsTaken delta (limit_of limit))
-    (Leaving (LeavesTake delta (limit_of limit)) (RefusesTake delta (limit_of limit)))
+-- what an exchange makes of the handle's site under these flags and this limit; unknown flags are
+-- reported as usage
+abbrev pub ReportsChecked : ℕ → ℕ → (Checks → Edits) → (Checks → Edits)
+    → (Checks → SiteState → FrontFault → Type 0) → Option SiteState → Option SiteState → Reports
+ReportsChecked flags limit Is Leaves Refuses old new told status =
+    MatchOption (checks_of flags limit) (KeepsOnUsage old new told status)
+    (λ checks. ReportsEdited (Is checks) (Leaving (Leaves checks) (Refuses checks)) old new told
+    status)
 
--- the site joined to that of another handle; where that is not open it is reported as usage
-abbrev pub ReportsMerged : Option SiteState → Option SiteState → Option SiteState → Reports
-ReportsMerged other old new told status =
-    MatchOption other ((new ≡ old) × (status ≡ usage) × (told ≡ answered 0 0))
-    (λ cells. ReportsEdited (IsMerged cells) (Leaving (LeavesMerge cells) (RefusesMerge cells)) old
+-- the site with a delta for it taken; out of memory may leave it partly joined
+abbrev pub ReportsTaken : ℕ → Text → ℕ → Option SiteState → Option SiteState → Reports
+ReportsTaken flags delta limit =
+    ReportsChecked flags limit (IsTaken delta) (LeavesTake delta) (RefusesTake delta)
+
+-- the site joined to that of another handle; if that is not open it is reported as usage
+abbrev pub ReportsMerged : ℕ → Option SiteState → ℕ → Option SiteState → Option SiteState → Reports
+ReportsMerged flags other limit old new told status =
+    MatchOption other (KeepsOnUsage old new told status)
+    (λ site. ReportsChecked flags limit (IsMerged site) (LeavesMerge site) (RefusesMerge site) old
     new told status)
 
 -- the site with each label of the language maps put; a refused import leaves it as it was

@@ -1,10 +1,16 @@
--- The questions of C (project rules).
+-- The questions of C, and what its exchanges test and show (project rules).
 use Rattle.std.specs.Prelude.{◌==◌, ◌∷◌, [], ℕ, List, Option, None, Some, if◌then◌else◌}
+use Rattle.std.specs.Prelude.{option_map}
 use Rattle.list_core.specs.declared.field.Malformed.{Malformed}
 use Rattle.list_core.specs.declared.field.Malformed.TheVariants.{Refused, PassedOver}
 use Rattle.list_core.specs.declared.scheme.Scheme.{Scheme}
 use Rattle.list_core.specs.declared.scheme.Scheme.TheVariants.{Basic, Extended}
 use Rattle.nego_core.specs.declared.widening.Widening.TheVariants.{By, Off}
+use Rattle.site_docs.specs.declared.checks.Checks.{Checks}
+use Rattle.site_docs.specs.declared.checks.OwnEdits.{OwnEdits}
+use Rattle.site_docs.specs.declared.checks.OwnEdits.TheVariants.{Checked, Unchecked}
+use Rattle.summary_docs.specs.declared.summaries.Shows.{Shows}
+use Rattle.summary_docs.specs.declared.summaries.Shows.TheVariants.{Labels, Stamps}
 use Rattle.front_core.specs.Preferences.{FieldText}
 
 -- a field with its scheme and what malformed elements do, for a lookup that is not widened
@@ -44,3 +50,17 @@ default_of (byte ∷ rest) = Some (byte ∷ rest)
 -- a limit of 0 is none
 abbrev pub limit_of : ℕ → Option ℕ
 limit_of limit = if limit == 0 then None else Some limit
+
+-- 8 tests a site's own edits
+abbrev pub own_edits_of : ℕ → Option OwnEdits
+own_edits_of flags =
+    if flags == 0 then Some Unchecked else if flags == 8 then Some Checked else None
+
+-- what an exchange tests under these flags and this limit
+abbrev pub checks_of : ℕ → ℕ → Option Checks
+checks_of flags limit =
+    option_map (λ own. record { not_after = limit_of limit; own_edits = own }) (own_edits_of flags)
+
+-- 16 shows labels
+abbrev pub shows_of : ℕ → Option Shows
+shows_of flags = if flags == 0 then Some Stamps else if flags == 16 then Some Labels else None

@@ -22,9 +22,11 @@
 //! room. No export has a `requires`: the contract of each holds for whatever it is passed.
 //!
 //! The flags of a question are 1, by which its field is a list of extended ranges (RFC 4647 section
-//! 2.2), 2, by which malformed elements of the field are skipped, and, where it is a lookup, 4, by
-//! which a range also finds the languages that it matches. A question with any other flag, or to a
-//! handle that is not open, has status 2.
+//! 2.2), 2, by which malformed elements of the field are skipped, and, for a lookup alone, 4, by
+//! which a range also finds the languages that it matches. The flag of [`sw_site_take`] and
+//! [`sw_site_merge`] is 8, by which they test the site's own edits, and that of [`sw_site_summary`]
+//! is 16, by which it shows labels. A call with any other flag, or with a handle that is not open,
+//! has status 2.
 #![tactic(auto)]
 
 ghost use Rattle.std.specs.Prelude.{◌≡◌, None};
@@ -35,12 +37,11 @@ ghost use Rattle.front_c.specs.Calls.{ReportsLookupText, ReportsMeaning, Reports
 ghost use Rattle.front_c.specs.Calls.{ReportsMissing, ReportsNew, ReportsOpened, ReportsOutdated};
 ghost use Rattle.front_c.specs.Calls.{ReportsPick, ReportsPut, ReportsReadFilter};
 ghost use Rattle.front_c.specs.Calls.{ReportsReadLookup, ReportsRefusalText, ReportsShared};
-ghost use Rattle.front_c.specs.Calls.{ReportsTagFilter};
+ghost use Rattle.front_c.specs.Calls.{ReportsSummary, ReportsTagFilter};
 ghost use Rattle.front_c.specs.Calls.{ReportsTaken, ReportsUpdated, ReportsView, ReportsWritten};
 ghost use Rattle.front_c.specs.Reporting.{ReportsAnswer, ReportsLabelText};
 ghost use Rattle.front_c.specs.Handles.{site_of};
 ghost use Rattle.front_core.specs.declared.exchange.View.TheVariants.{Document, Export, Status};
-ghost use Rattle.front_core.specs.declared.exchange.View.TheVariants.{Summary};
 
 mod handles;
 mod question;
@@ -48,7 +49,7 @@ mod reporting;
 mod status;
 mod told;
 
-use crate::question::{default_of, field_of, limit_of, lookup_field_of};
+use crate::question::{checks_of, default_of, field_of, lookup_field_of, shows_of};
 use crate::reporting::{
     ask, explained, hold, hold_share, report, report_edit, report_label_text, report_nothing,
     report_pick, report_refusal, report_text, report_text_in, report_usage,
@@ -160,48 +161,59 @@ pub extern "C" fn sw_site_delete(
 
 /// Joins what the site of another handle has. The other handles of the site keep what they had.
 ///
-/// Refused, and then the site is as it was, where one stamp has two labels (13). After 26 each key
-/// has its old cell, or none as before, or that of the join, so that a repeat gives the join.
+/// If `not_after` is not 0, a time of the other site that is greater is refused (29). Then, with
+/// flag 8, an edit of this site that it lacks is refused (30), and then one stamp with two labels
+/// (13). After each of these the site is as it was. After out of memory (26) each key has its old
+/// cell, or none as before, or that of the join, so that a repeat gives the join.
 #[unsafe(no_mangle)]
 pub extern "C" fn sw_site_merge(
     alloc: Global,
     site: &mut SiteHandle,
+    flags: u32,
     other: &mut SiteHandle,
+    not_after: u64,
     told: &mut Told,
 ) -> i32
     ensures other { other.new.value ≡ other.old.value }
-    ensures merged { ReportsMerged (site_of other.old) (site_of site.old) (site_of site.new)
-        told.new result }
+    ensures merged { ReportsMerged flags (site_of other.old) not_after (site_of site.old)
+        (site_of site.new) told.new result }
 {
     let Some(cells) = other.open() else {
         return report_usage(told);
     };
+    let Some(checks) = checks_of(flags, not_after) else {
+        return report_usage(told);
+    };
     match site.open() {
-        Some(held) => report_edit(held.merge(alloc, cells.site()), told),
+        Some(held) => report_edit(held.merge(alloc, cells.site(), checks), told),
         None => report_usage(told),
     }
 }
 
-/// Takes the document of a delta for the site. Where `not_after` is not 0 no time of the delta may
-/// be greater. The other handles of the site keep what they had.
+/// Takes the document of a delta for the site. The other handles of the site keep what they had.
 ///
-/// Refused are the delta (18 to 21, 27, 28; 10 to 12, or 1 to 4, in a row of it), a time of it
-/// (29), then a delta for another site (15), and one stamp with two labels (13): then the site is
-/// as it was. After 26 each key has its old cell, or none as before, or that of the join, so that a
-/// repeat gives the join.
+/// Refused is first the delta (18 to 21, 27, 28; 10 to 12, or 1 to 4, in a row of it), then, if
+/// `not_after` is not 0, a time of it that is greater (29), then a delta for another site (15),
+/// then, with flag 8, an edit of this site that it lacks (30), then one stamp with two labels (13).
+/// After each of these the site is as it was. After out of memory (26) each key has its old cell,
+/// or none as before, or that of the join, so that a repeat gives the join.
 #[unsafe(no_mangle)]
 pub extern "C" fn sw_site_take(
     alloc: Global,
     site: &mut SiteHandle,
+    flags: u32,
     delta: &[u8],
     not_after: u64,
     told: &mut Told,
 ) -> i32
-    ensures { ReportsTaken delta.now not_after (site_of site.old) (site_of site.new) told.new
+    ensures { ReportsTaken flags delta.now not_after (site_of site.old) (site_of site.new) told.new
         result }
 {
+    let Some(checks) = checks_of(flags, not_after) else {
+        return report_usage(told);
+    };
     match site.open() {
-        Some(held) => report_edit(held.take(alloc, delta, limit_of(not_after)), told),
+        Some(held) => report_edit(held.take(alloc, delta, checks), told),
         None => report_usage(told),
     }
 }
@@ -260,18 +272,23 @@ pub extern "C" fn sw_site_write(
     ask(alloc, site, Ok(View::Document), out, told)
 }
 
-/// Answers the document of the site's summary, as the command `summary` prints it.
+/// Answers the document of the site's summary, as the command `summary` prints it. With flag 16 it
+/// has a digest of each label too.
 #[unsafe(no_mangle)]
 pub extern "C" fn sw_site_summary(
     alloc: Global,
     site: &mut SiteHandle,
+    flags: u32,
     out: &mut [u8],
     told: &mut Told,
 ) -> i32
     ensures site { site.new.value ≡ site.old.value }
-    ensures answer { ReportsView Summary (site_of site.old) out.old out.new told.new result }
+    ensures answer { ReportsSummary flags (site_of site.old) out.old out.new told.new result }
 {
-    ask(alloc, site, Ok(View::Summary), out, told)
+    match shows_of(flags) {
+        Some(shows) => ask(alloc, site, Ok(View::Summary(shows)), out, told),
+        None => report_usage(told),
+    }
 }
 
 /// Answers the line of the command `status`.

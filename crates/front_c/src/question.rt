@@ -1,8 +1,10 @@
-//! The parts of a question that C asks.
+//! The parts of a question or an exchange that C asks for.
 ghost use Rattle.std.specs.Prelude.{◌≡◌, option_map};
 ghost use Rattle.front_core.specs.Preferences.{field_text};
-ghost use Rattle.front_c.specs.Question.{default_of, field_of, limit_of, lookup_field_of};
+ghost use Rattle.front_c.specs.Question.{checks_of, default_of, field_of, limit_of};
+ghost use Rattle.front_c.specs.Question.{lookup_field_of, own_edits_of, shows_of};
 
+use docs_core::{Checks, OwnEdits, Shows};
 use front_core::Field;
 use nego_core::{Malformed, Scheme, Widening};
 
@@ -53,8 +55,42 @@ pub(crate) fn default_of(text: &[u8]) -> Option<&[u8]>
     if text.is_empty() { None } else { Some(text) }
 }
 
-/// The limit on the times of a delta: 0 is none.
-pub(crate) fn limit_of(not_after: u64) -> Option<u64>
+/// What an exchange tests under these flags, or none where one of them is unknown: 8 tests the
+/// site's own edits, and a limit other than 0 the times.
+pub(crate) fn checks_of(flags: u32, not_after: u64) -> Option<Checks>
+    ensures { result ≡ checks_of flags not_after }
+{
+    let own_edits = own_edits_of(flags)?;
+    Some(Checks {
+        not_after: limit_of(not_after),
+        own_edits,
+    })
+}
+
+/// What a summary shows under these flags, or none where one of them is unknown: 16 shows labels.
+pub(crate) fn shows_of(flags: u32) -> Option<Shows>
+    ensures { result ≡ shows_of flags }
+{
+    match flags {
+        0 => Some(Shows::Stamps),
+        16 => Some(Shows::Labels),
+        _ => None,
+    }
+}
+
+/// Whether an exchange tests the site's own edits, or none where a flag is unknown.
+fn own_edits_of(flags: u32) -> Option<OwnEdits>
+    ensures { result ≡ own_edits_of flags }
+{
+    match flags {
+        0 => Some(OwnEdits::Unchecked),
+        8 => Some(OwnEdits::Checked),
+        _ => None,
+    }
+}
+
+/// The limit on the times of an exchange: 0 is none.
+fn limit_of(not_after: u64) -> Option<u64>
     ensures { result ≡ limit_of not_after }
 {
     if not_after == 0 {

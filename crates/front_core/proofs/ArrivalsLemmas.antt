@@ -1,4 +1,9 @@
 -- What an edit brought, gathered by its keys.
+--
+-- An edit keeps each cell but those at some keys, where the new cell wins its join with the old. So
+-- the state after it is the state before, joined with the cells at these keys, if all of them were
+-- gathered (`gathered`). A change has one key; of an import and an update the keys are those of
+-- their labels, which are looked at one by one, and a key at which nothing changed may be left out.
 use Rattle.std.proofs.Common.{◌≡◌, ◌≢◌, ◌∙◌, ◌+◌, ◌<◌, ℕ, true, false, cond, List, [], ◌∷◌, Option}
 use Rattle.std.proofs.Common.{Some, None, inl, inr, refl, sym, ap, subst, drop, get_or, length}
 use Rattle.std.specs.Prelude.{◌⊎◌}

@@ -1,4 +1,9 @@
 -- What lookup finds, by its text and by the tags that spell it.
+--
+-- Lookup runs over the languages that the tags spell, and answers a place among them; a pick
+-- answers a tag, as it was passed in. As many languages as tags are there, so the place is one of a
+-- tag, and this tag spells the language found. It is the first that does, since lookup answers the
+-- first place of a language. The default and the empty answer are the two other cases.
 use Rattle.std.proofs.Common.{◌≡◌, ◌∙◌, ◌<◌, ℕ, List, [], ◌∷◌, ap, arith, false, get_or, inl, inr}
 use Rattle.std.proofs.Common.{length, refl, subst, suc, sym, true, zero, Option, None, Some}
 use Rattle.std.proofs.lemmas.List.Elements.{All-cons, All-nil}

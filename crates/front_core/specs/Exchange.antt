@@ -1,13 +1,13 @@
 -- The texts of a whole site, and the delta that another site lacks (project rules).
 use Rattle.std.specs.Prelude.{◌≡◌}
-use Rattle.cata_core.specs.Delta.{delta_of, summary_of}
 use Rattle.cata_core.specs.Site.{SiteState}
-use Rattle.cata_core.specs.Summary.{SummaryState}
 use Rattle.json_docs.specs.FaultChecks.{OrMemory}
 use Rattle.map_docs.specs.WritingTexts.{IsTextOf}
 use Rattle.row_docs.specs.Reading.{IsOfDocument, no_memory}
-use Rattle.site_docs.specs.Reading.{IsDeltaText, IsSiteText, IsSummaryText, ReadsAsSite}
-use Rattle.site_docs.specs.Reading.{ReadsAsSummary, RefusesSummary}
+use Rattle.site_docs.specs.Reading.{IsDeltaText, IsSiteText, ReadsAsSite}
+use Rattle.summary_docs.specs.Reading.{ReadsAsShown, RefusesShown}
+use Rattle.summary_docs.specs.Shown.{ShownState, delta_for}
+use Rattle.summary_docs.specs.Writing.{IsSummaryBy}
 use Rattle.query_docs.specs.Exporting.{live_labels}
 use Rattle.query_docs.specs.Status.{status_line}
 use Rattle.front_core.specs.Fault.{IsOf, document_fault}
@@ -21,8 +21,7 @@ use Rattle.front_core.specs.declared.fault.FrontFault.{FrontFault}
 -- the text of the site
 abbrev pub IsView : View → SiteState → Text → Type 0
 IsView view.Document site = IsSiteText site
-IsView view.Summary site =
-    IsSummaryText (record { owner = site.name; stamps = summary_of site.cells })
+IsView (view.Summary shows) site = IsSummaryBy shows site
 IsView view.Status site = λ text. text ≡ status_line site
 IsView view.Export site = IsTextOf (live_labels site.cells)
 
@@ -37,14 +36,13 @@ ShowsView asked site answer = IsView asked site answer.text × (answer.outcome �
 -- the cells that the summary lacks, for its owner
 abbrev pub IsDelta : SiteState → Text → Answer → Type 0
 IsDelta site bytes answer =
-    (summary : SummaryState) × ReadsAsSummary bytes summary
+    (shown : ShownState) × ReadsAsShown bytes shown
     × IsDeltaText (record {
-      addressee = summary.owner;
-      cells =
-          delta_of site.cells summary.stamps;
+      addressee = shown.summary.owner;
+      cells = delta_for site.cells shown;
     }) answer.text × (answer.outcome ≡ Found)
 
 -- the bytes are no document of a summary, or memory ran out
 abbrev pub RefusesDelta : Text → FrontFault → Type 0
 RefusesDelta bytes = IsOf document_fault (OrMemory no_memory
-    (IsOfDocument 1 (RefusesSummary bytes)))
+    (IsOfDocument 1 (RefusesShown bytes)))

@@ -1,19 +1,22 @@
 -- Open sites: how one is made, what each edit makes of it, why it is refused, and what a refusal
 -- leaves (project rules).
-use Rattle.std.specs.Prelude.{◌≡◌, [], ℕ, List, ◌⊎◌, Option}
+use Rattle.std.specs.Prelude.{◌≡◌, ◌≢◌, [], ℕ, List, ◌⊎◌}
 use Rattle.std.specs.Str.{IsUtf8}
 use Rattle.cell_core.specs.SiteName.{IsSiteName}
 use Rattle.cell_core.specs.declared.fault.CellFault.TheVariants.{SiteName}
-use Rattle.cata_core.specs.Site.{SiteState, RefusesDelta}
+use Rattle.cata_core.specs.Site.{SiteState}
 use Rattle.catalogue.specs.CataFault.{IsRefusal}
 use Rattle.catalogue.specs.Entries.{Agree, Between, Entries, joined}
 use Rattle.cata_core.specs.declared.delta.Delta.{Delta}
-use Rattle.catalogue.specs.declared.cata_fault.CataFault.TheVariants.{ClockSpent}
+use Rattle.catalogue.specs.declared.cata_fault.CataFault.TheVariants.{ClockSpent, NotForMe}
 use Rattle.json_docs.specs.FaultChecks.{OrMemory}
 use Rattle.row_docs.specs.Reading.{no_memory, IsOfDocument}
 use Rattle.map_docs.specs.MapsLabels.{AreLangMaps, RefusesLangMaps}
 use Rattle.map_docs.specs.Maps.{Labelled}
-use Rattle.site_docs.specs.Checks.{ReadsInTime, RefusesDeltaUntil}
+use Rattle.site_docs.specs.Checks.{IsOwnMissing, LacksNoOwn, ReadsInTime, RefusesDeltaUntil}
+use Rattle.site_docs.specs.RowsInTime.{AreInTime, IsTimeAhead}
+use Rattle.site_docs.specs.declared.checks.Checks.{Checks}
+use Rattle.site_docs.specs.declared.checks.OwnEdits.{OwnEdits}
 use Rattle.docs_core.specs.ImportingLabels.{Imports, SpendsImport}
 use Rattle.docs_core.specs.Updating.{SpendsUpdate, Updates}
 use Rattle.front_core.specs.Change.{HasKey, HasLabel, IsChanged, IsDelete, IsPut, RefusesChange}
@@ -78,53 +81,92 @@ abbrev pub IsJoined : Entries → Edits
 IsJoined cells old new = Agree old.cells cells
     × (new ≡ record { name = old.name; cells = joined old.cells cells })
 
--- the cells are those of both, which agree
-abbrev pub IsMerged : SiteState → Edits
-IsMerged other = IsJoined other.cells
-
--- the least key whose stamp has two labels is reported, or memory ended
-abbrev pub RefusesMerge : SiteState → SiteState → FrontFault → Type 0
-RefusesMerge other site = IsOf site_fault (IsRefusal site.cells other.cells)
+-- the least key whose stamp has two labels is refused
+abbrev pub RefusesJoin : Entries → SiteState → FrontFault → Type 0
+RefusesJoin cells site = IsOf site_fault (IsRefusal site.cells cells)
 
 -- a join that is refused leaves the site as it was, or partly joined
 abbrev pub LeavesJoin : Entries → Edits
 LeavesJoin cells old new = (new ≡ old) ⊎ IsPartlyJoined cells old new
 
--- a refused merge leaves what a join leaves
-abbrev pub LeavesMerge : SiteState → Edits
-LeavesMerge other = LeavesJoin other.cells
+-- ---- joins after the test for own edits
 
--- the delta is for the site, and the cells are those of both, which agree
-abbrev pub IsTakenDelta : Delta → Edits
-IsTakenDelta delta old new = (old.name ≡ delta.addressee) × IsJoined delta.cells old new
+-- the site lacks none of its own edits among the cells, if that is tested, and is joined with them
+abbrev pub IsJoinedOwn : OwnEdits → Entries → Edits
+IsJoinedOwn own cells old new = LacksNoOwn own old cells × IsJoined cells old new
 
--- the delta is for another site, or refused as cells are
-abbrev pub RefusesTakeDelta : Delta → SiteState → FrontFault → Type 0
-RefusesTakeDelta delta site = IsOf site_fault (RefusesDelta site delta)
+-- the first of its own edits that it lacks is refused, and then as a join is
+abbrev pub RefusesJoinOwn : OwnEdits → Entries → SiteState → FrontFault → Type 0
+RefusesJoinOwn own cells site fault =
+    IsOf document_fault (IsOwnMissing 1 own site cells) fault
+    ⊎ (LacksNoOwn own site cells × RefusesJoin cells site fault)
 
--- a delta that is refused leaves the site as it was, or partly joined where it is for the site
-abbrev pub LeavesTakeDelta : Delta → Edits
-LeavesTakeDelta delta old new =
-    (new ≡ old) ⊎ ((old.name ≡ delta.addressee) × IsPartlyJoined delta.cells old new)
+-- the site lacks none of its own edits among the cells, if that is tested, and is partly joined
+abbrev pub IsPartlyJoinedOwn : OwnEdits → Entries → Edits
+IsPartlyJoinedOwn own cells old new = LacksNoOwn own old cells × IsPartlyJoined cells old new
+
+-- the site is as it was, or partly joined
+abbrev pub LeavesJoinOwn : OwnEdits → Entries → Edits
+LeavesJoinOwn own cells old new = (new ≡ old) ⊎ IsPartlyJoinedOwn own cells old new
+
+-- ---- merges
+
+-- the other site's cells pass the checks, and the site is joined with them
+abbrev pub IsMerged : SiteState → Checks → Edits
+IsMerged other checks old new =
+    AreInTime checks.not_after other.cells × IsJoinedOwn checks.own_edits other.cells old new
+
+-- the first of the times that is after the limit is refused, then as the cells are
+abbrev pub RefusesMerge : SiteState → Checks → SiteState → FrontFault → Type 0
+RefusesMerge other checks site fault =
+    IsOf document_fault (IsTimeAhead 1 checks.not_after other.cells) fault
+    ⊎ (AreInTime checks.not_after other.cells
+    × RefusesJoinOwn checks.own_edits other.cells site fault)
+
+-- the site is as it was, or partly joined if the times are in the limit
+abbrev pub LeavesMerge : SiteState → Checks → Edits
+LeavesMerge other checks old new =
+    (new ≡ old) ⊎ (AreInTime checks.not_after other.cells
+    × IsPartlyJoinedOwn checks.own_edits other.cells old new)
+
+-- ---- deltas
+
+-- the delta is for the site, which is joined with its cells
+abbrev pub IsTakenDelta : OwnEdits → Delta → Edits
+IsTakenDelta own delta old new =
+    (old.name ≡ delta.addressee) × IsJoinedOwn own delta.cells old new
+
+-- a delta for another site is refused, then as the cells are
+abbrev pub RefusesTakeDelta : OwnEdits → Delta → SiteState → FrontFault → Type 0
+RefusesTakeDelta own delta site fault =
+    ((site.name ≢ delta.addressee) × (fault ≡ site_fault (NotForMe delta.addressee)))
+    ⊎ ((site.name ≡ delta.addressee) × RefusesJoinOwn own delta.cells site fault)
+
+-- the site is as it was, or partly joined if the delta is for it
+abbrev pub LeavesTakeDelta : OwnEdits → Delta → Edits
+LeavesTakeDelta own delta old new =
+    (new ≡ old) ⊎ ((old.name ≡ delta.addressee) × IsPartlyJoinedOwn own delta.cells old new)
 
 -- the bytes are a delta whose times are in the limit, and it is taken
-abbrev pub IsTaken : Text → Option ℕ → Edits
-IsTaken bytes limit old new =
-    (delta : Delta) × ReadsInTime limit bytes delta × IsTakenDelta delta old new
+abbrev pub IsTaken : Text → Checks → Edits
+IsTaken bytes checks old new =
+    (delta : Delta) × ReadsInTime checks.not_after bytes delta
+    × IsTakenDelta checks.own_edits delta old new
 
 -- the bytes are refused, or a time of them; then the site refuses the delta
-abbrev pub RefusesTake : Text → Option ℕ → SiteState → FrontFault → Type 0
-RefusesTake bytes limit site fault =
-    IsOf document_fault (OrMemory no_memory (RefusesDeltaUntil 1 limit bytes)) fault
-    ⊎ ((delta : Delta) × ReadsInTime limit bytes delta × RefusesTakeDelta delta site fault)
+abbrev pub RefusesTake : Text → Checks → SiteState → FrontFault → Type 0
+RefusesTake bytes checks site fault =
+    IsOf document_fault (OrMemory no_memory (RefusesDeltaUntil 1 checks.not_after bytes)) fault
+    ⊎ ((delta : Delta) × ReadsInTime checks.not_after bytes delta
+    × RefusesTakeDelta checks.own_edits delta site fault)
 
--- a refused take leaves the site as it was, or partly joined where the bytes are a delta for it
--- whose times are in the limit
-abbrev pub LeavesTake : Text → Option ℕ → Edits
-LeavesTake bytes limit old new =
+-- the site is as it was, or partly joined if the bytes are a delta for it whose times are in the
+-- limit
+abbrev pub LeavesTake : Text → Checks → Edits
+LeavesTake bytes checks old new =
     (new ≡ old)
-    ⊎ ((delta : Delta) × ReadsInTime limit bytes delta × (old.name ≡ delta.addressee)
-    × IsPartlyJoined delta.cells old new)
+    ⊎ ((delta : Delta) × ReadsInTime checks.not_after bytes delta × (old.name ≡ delta.addressee)
+    × IsPartlyJoinedOwn checks.own_edits delta.cells old new)
 
 -- the bytes, which are the document of this number, are no language maps
 abbrev pub RefusesMaps : ℕ → Text → FrontFault → Type 0

@@ -1,17 +1,19 @@
 //! Edits of a site that shares may have in common: in place where there is one share, and else in
 //! another site.
-ghost use Rattle.std.specs.Prelude.{◌≡◌, ◌≢◌, ℕ, IfErr, OnErr, OnOk};
+ghost use Rattle.std.specs.Prelude.{◌≡◌, ◌≢◌, ◌^◌, ◌<◌, ℕ, IfErr, OnErr, OnOk, length};
 ghost use Rattle.cell_core.specs.Keyed.{IsMap};
-ghost use Rattle.catalogue.specs.CataFault.{IsRefusal};
 ghost use Rattle.cell_core.specs.Entry.{key_cmp};
 ghost use Rattle.cata_core.specs.Site.{SiteState};
 ghost use Rattle.catalogue.specs.declared.cata_fault.CataFault.TheVariants.{ClockSpent};
 ghost use Rattle.docs_core.specs.ImportingLabels.{Imports, SpendsImport};
 ghost use Rattle.docs_core.specs.Updating.{SpendsUpdate, Updates};
 ghost use Rattle.front_core.specs.Change.{IsChanged, RefusesChange};
-ghost use Rattle.front_core.specs.Fault.{IsOf, site_fault};
-ghost use Rattle.front_core.specs.OpenSite.{IsJoined, IsTakenDelta, LeavesJoin, LeavesTakeDelta};
-ghost use Rattle.front_core.specs.OpenSite.{OrNoMemory, RefusesTakeDelta};
+ghost use Rattle.site_docs.specs.Checks.{IsOwnMissing, LacksNoOwn};
+ghost use Rattle.site_docs.specs.RowsInTime.{AreInTime, IsTimeAhead};
+ghost use Rattle.front_core.specs.Fault.{IsOf, document_fault, site_fault};
+ghost use Rattle.front_core.specs.OpenSite.{IsJoined, IsJoinedOwn, IsTakenDelta, LeavesJoin};
+ghost use Rattle.front_core.specs.OpenSite.{LeavesJoinOwn, LeavesTakeDelta, OrNoMemory};
+ghost use Rattle.front_core.specs.OpenSite.{RefusesJoin, RefusesJoinOwn, RefusesTakeDelta};
 ghost use Rattle.front_core.specs.Spare.{IsSpareOf};
 ghost use Rattle.front_core.specs.declared.fault.FrontFault.TheVariants.{NoMemory};
 
@@ -20,7 +22,8 @@ use crate::change::Change;
 use crate::fault::FrontFault;
 use crate::spare::{Spare, as_spare, equal_site, exchange, missing_more};
 use cata_core::{CataFault, Catalogue, Delta, Site};
-use docs_core::{LangMaps, put_labels, update_labels};
+use docs_core::{LangMaps, OwnEdits, put_labels, update_labels};
+use site_docs::{check_own, check_times};
 use std::alloc::Global;
 use std::sync::Arc;
 
@@ -112,17 +115,18 @@ fn make_apart(
     Ok(())
 }
 
-/// Joins the cells of a delta.
+/// Joins the cells of a delta for the site, which may test its own edits first.
 pub(crate) fn take_in(
     alloc: Global,
     share: &mut Arc<Site>,
     spare: &mut Option<Spare>,
     delta: &Delta,
+    own: OwnEdits,
 ) -> Result<(), FrontFault>
     requires { IsSpareOf share.old.value spare.old }
-    ensures ok { OnOk result (IsTakenDelta delta.now share.old.value share.new.value) }
-    ensures err { IfErr result (OrNoMemory (RefusesTakeDelta delta.now share.old.value)) }
-    ensures left { OnErr result (LeavesTakeDelta delta.now share.old.value share.new.value) }
+    ensures ok { OnOk result (IsTakenDelta own delta.now share.old.value share.new.value) }
+    ensures err { IfErr result (OrNoMemory (RefusesTakeDelta own delta.now share.old.value)) }
+    ensures left { OnErr result (LeavesTakeDelta own delta.now share.old.value share.new.value) }
     ensures kept { IfErr result (λ fault. fault ≢ NoMemory → share.new.value ≡ share.old.value) }
     ensures spare { IsSpareOf share.new.value spare.new }
 {
@@ -130,11 +134,70 @@ pub(crate) fn take_in(
     if share.name() != addressee {
         return Err(FrontFault::from(CataFault::NotForMe { addressee }));
     }
-    join_in(alloc, share, spare, delta.cells())
+    join_own_in(alloc, share, spare, delta.cells(), own)
+}
+
+/// Joins cells, if the site lacks none of its own edits among them, or that is not tested.
+pub(crate) fn join_own_in(
+    alloc: Global,
+    share: &mut Arc<Site>,
+    spare: &mut Option<Spare>,
+    cells: &Catalogue,
+    own: OwnEdits,
+) -> Result<(), FrontFault>
+    requires { IsSpareOf share.old.value spare.old }
+    ensures ok { OnOk result (IsJoinedOwn own cells.now share.old.value share.new.value) }
+    ensures err { IfErr result (OrNoMemory (RefusesJoinOwn own cells.now share.old.value)) }
+    ensures left { OnErr result (LeavesJoinOwn own cells.now share.old.value share.new.value) }
+    ensures kept { IfErr result (λ fault. fault ≢ NoMemory → share.new.value ≡ share.old.value) }
+    ensures spare { IsSpareOf share.new.value spare.new }
+{
+    // (With `?` the kit has no plan for the borrows here: it misses the module of `CataFault`.)
+    match check_own_edits(share, cells, own) {
+        Ok(()) => join_in(alloc, share, spare, cells),
+        Err(fault) => Err(fault),
+    }
+}
+
+/// Whether the site lacks none of its own edits among the cells, if that is tested.
+fn check_own_edits(site: &Site, cells: &Catalogue, own: OwnEdits) -> Result<(), FrontFault>
+    ensures ok { OnOk result (LacksNoOwn own site.now cells.now) }
+    ensures err { IfErr result
+        (OrNoMemory (IsOf document_fault (IsOwnMissing 1 own site.now cells.now))) }
+{
+    check_count(cells)?;
+    match check_own(1, site, cells, own) {
+        Ok(()) => Ok(()),
+        Err(fault) => Err(FrontFault::from(fault)),
+    }
+}
+
+/// Whether no time of the cells is after the limit, if there is one.
+pub(crate) fn check_limit(cells: &Catalogue, not_after: Option<u64>) -> Result<(), FrontFault>
+    ensures ok { OnOk result (AreInTime not_after cells.now) }
+    ensures err { IfErr result
+        (OrNoMemory (IsOf document_fault (IsTimeAhead 1 not_after cells.now))) }
+{
+    check_count(cells)?;
+    match check_times(1, cells, not_after) {
+        Ok(()) => Ok(()),
+        Err(fault) => Err(FrontFault::from(fault)),
+    }
+}
+
+/// Whether the cells can be counted as rows. No memory holds more than that.
+fn check_count(cells: &Catalogue) -> Result<(), FrontFault>
+    ensures ok { OnOk result (length cells.now < 2 ^ 64) }
+    ensures err { IfErr result (λ fault. fault ≡ NoMemory) }
+{
+    match usize::try_from(cells.len()) {
+        Ok(_) => Ok(()),
+        Err(_) => Err(FrontFault::NoMemory),
+    }
 }
 
 /// Joins cells in place where this is the only share, and else in another site.
-pub(crate) fn join_in(
+fn join_in(
     alloc: Global,
     share: &mut Arc<Site>,
     spare: &mut Option<Spare>,
@@ -142,8 +205,7 @@ pub(crate) fn join_in(
 ) -> Result<(), FrontFault>
     requires { IsSpareOf share.old.value spare.old }
     ensures ok { OnOk result (IsJoined cells.now share.old.value share.new.value) }
-    ensures err { IfErr result (OrNoMemory
-        (IsOf site_fault (IsRefusal share.old.value.cells cells.now))) }
+    ensures err { IfErr result (OrNoMemory (RefusesJoin cells.now share.old.value)) }
     ensures left { OnErr result (LeavesJoin cells.now share.old.value share.new.value) }
     ensures kept { IfErr result (λ fault. fault ≢ NoMemory → share.new.value ≡ share.old.value) }
     ensures spare { IsSpareOf share.new.value spare.new }
@@ -163,8 +225,7 @@ fn join_in_place(
 ) -> Result<(), FrontFault>
     requires { IsSpareOf site.old spare.old }
     ensures ok { OnOk result (IsJoined cells.now site.old site.new) }
-    ensures err { IfErr result (OrNoMemory
-        (IsOf site_fault (IsRefusal site.old.cells cells.now))) }
+    ensures err { IfErr result (OrNoMemory (RefusesJoin cells.now site.old)) }
     ensures left { OnErr result (LeavesJoin cells.now site.old site.new) }
     ensures kept { IfErr result (λ fault. fault ≢ NoMemory → site.new ≡ site.old) }
     ensures spare { IsSpareOf site.new spare.new }
@@ -191,8 +252,7 @@ fn join_apart(
 ) -> Result<(), FrontFault>
     requires { IsSpareOf share.old.value spare.old }
     ensures ok { OnOk result (IsJoined cells.now share.old.value share.new.value) }
-    ensures err { IfErr result (OrNoMemory
-        (IsOf site_fault (IsRefusal share.old.value.cells cells.now))) }
+    ensures err { IfErr result (OrNoMemory (RefusesJoin cells.now share.old.value)) }
     ensures left { OnErr result (share.new.value ≡ share.old.value) }
     ensures spare { IsSpareOf share.new.value spare.new }
 {

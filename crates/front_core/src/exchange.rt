@@ -7,8 +7,8 @@ use crate::ask::{Question, SiteIn};
 use crate::fault::FrontFault;
 use cata_core::Site;
 use docs_core::{
-    Doc, DocFault, export_document, read_site, read_summary, status_document, status_line,
-    summary_document, write_delta, write_live_labels, write_site, write_summary,
+    Doc, DocFault, Shows, delta_of_site, export_document, read_site, status_document, status_line,
+    summary_document, summary_of_site, write_live_labels, write_site,
 };
 use std::alloc::{AllocError, Global};
 
@@ -17,8 +17,9 @@ use std::alloc::{AllocError, Global};
 pub enum View {
     /// Its document, which reads as this site.
     Document,
-    /// The document of its summary: the stamps of its cells, deletions among them.
-    Summary,
+    /// The document of its summary: the stamps of its cells, deletions among them, and a digest of
+    /// each label if it shows labels.
+    Summary(Shows),
     /// Its status line: how many cells and labels it has, and its latest stamp.
     Status,
     /// The language maps of all its labels.
@@ -43,7 +44,7 @@ impl View {
                 let text = write_site(alloc, &site)?;
                 Ok(text)
             }
-            View::Summary => summary_document(alloc, bytes),
+            View::Summary(shows) => summary_document(alloc, bytes, shows),
             View::Status => status_document(alloc, bytes),
             View::Export => export_document(alloc, bytes),
         }
@@ -55,10 +56,7 @@ impl View {
     {
         match self {
             View::Document => write_site(alloc, site),
-            View::Summary => {
-                let summary = site.summary(alloc)?;
-                write_summary(alloc, &summary)
-            }
+            View::Summary(shows) => summary_of_site(alloc, site, shows),
             View::Status => status_line(alloc, site),
             View::Export => write_live_labels(alloc, site.catalogue()),
         }
@@ -85,14 +83,13 @@ impl Question for View {
     }
 }
 
-/// The document of the delta of what a summary lacks, for the summary's owner.
+/// The document of the delta of what a summary lacks, with labels or without, for the summary's
+/// owner.
 ///
-/// Refused as [`read_summary`] refuses the summary, by document 1, or since memory ran out (26).
+/// Refused as the summary is, by document 1, or since memory ran out (26).
 pub fn delta(alloc: Global, site: &Site, summary: &[u8]) -> Result<Answer, FrontFault>
     ensures { MatchResult result (IsDelta site.now summary.now) (RefusesDelta summary.now) }
 {
-    let summary = read_summary(alloc, summary)?;
-    let delta = site.delta_for(alloc, &summary)?;
-    let text = write_delta(alloc, &delta)?;
+    let text = delta_of_site(alloc, site, summary)?;
     Ok(Answer::new(text, Outcome::Found))
 }

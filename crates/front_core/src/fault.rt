@@ -24,7 +24,7 @@ pub enum FrontFault {
     /// The field is no priority list: 8, 9.
     #[error("{0}")]
     Field(NegoFault),
-    /// A document or a stream is refused, or a site refuses an edit: 1 to 4, 8 to 25, 27, 28.
+    /// A document or a stream is refused, or a site refuses an edit: 1 to 4, 8 to 25, 27 to 30.
     #[error("{cause}", cause = .0.cause)]
     Document(DocFault),
     /// 26.

@@ -2,6 +2,7 @@
 ghost use Rattle.std.specs.Prelude.{◌≡◌, ◌≢◌, ℕ, List, Option, true};
 ghost use Rattle.std.specs.List.{list_all};
 ghost use Rattle.cata_core.specs.Site.{SiteState};
+ghost use Rattle.site_docs.specs.declared.checks.Checks.{Checks};
 ghost use Rattle.front_core.specs.OpenSite.{IsMerged, IsTaken, LeavesMerge, LeavesTake};
 ghost use Rattle.front_core.specs.Preferences.{FieldText, Text};
 ghost use Rattle.front_core.specs.TagPick.{IsPickLine, RefusesPick};
@@ -25,11 +26,12 @@ pub fn refused_pick_has_no_line()
 
 /// After a merge or a take that ran out of memory a repeat gives what it would have given.
 pub fn a_join_can_be_repeated()
-    ensures merge { (other old new made : SiteState)
-        → LeavesMerge other old new → IsMerged other old made → IsMerged other new made }
-    ensures take { (bytes : Text) (limit : Option ℕ) (old new made : SiteState)
-        → LeavesTake bytes limit old new → IsTaken bytes limit old made
-        → IsTaken bytes limit new made }
+    ensures merge { (other : SiteState) (checks : Checks) (old new made : SiteState)
+        → LeavesMerge other checks old new → IsMerged other checks old made
+        → IsMerged other checks new made }
+    ensures take { (bytes : Text) (checks : Checks) (old new made : SiteState)
+        → LeavesTake bytes checks old new → IsTaken bytes checks old made
+        → IsTaken bytes checks new made }
 {}
 
 /// Each text of a refusal is one line; the printed text and the meaning have at most 255 bytes.

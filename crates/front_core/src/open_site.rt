@@ -3,12 +3,12 @@ ghost use Rattle.std.specs.Prelude.{MatchResult};
 ghost use Rattle.front_core.specs.OpenSite.{IsName, RefusesNewSite};
 
 use crate::change::Change;
-use crate::editing::{import_in, join_in, make_in, take_in, update_in};
+use crate::editing::{check_limit, import_in, join_own_in, make_in, take_in, update_in};
 use crate::fault::FrontFault;
 use crate::spare::Spare;
 use cata_core::Site;
 use cell_core::{CellFault, SiteName};
-use docs_core::{read_delta_until, read_langmaps, read_site};
+use docs_core::{Checks, read_delta_until, read_langmaps, read_site};
 use map_docs::langmaps_of_document;
 use std::alloc::{AllocError, Global};
 use std::marker::Model;
@@ -125,42 +125,54 @@ impl OpenSite {
         make_in(alloc, &mut self.share, &mut self.spare, now, &change)
     }
 
-    /// Joins the cells of another site: [`Site::merge`].
+    /// Joins the cells of another site, if they pass the checks: [`Site::merge`].
     ///
-    /// Refused, and then the site is unchanged, where one stamp has two labels (13). After 26 each
-    /// key has its old cell, or none as before, or that of the join, so that a repeat gives the
-    /// join.
-    pub fn merge(&mut self, alloc: Global, other: &Site) -> Result<(), FrontFault>
-        ensures ok { OnOk result (IsMerged other.now self.old self.new) }
-        ensures err { IfErr result (OrNoMemory (RefusesMerge other.now self.old)) }
+    /// Refused, and then the site is unchanged, are a time after the limit (29), then an edit of
+    /// this site that it lacks (30), then one stamp with two labels (13). The first two name the
+    /// row, by its place in the other site, and document 1. After 26 each key has its old cell, or
+    /// none as before, or that of the join, so that a repeat gives the join.
+    pub fn merge(&mut self, alloc: Global, other: &Site, checks: Checks) -> Result<(), FrontFault>
+        ensures ok { OnOk result (IsMerged other.now checks self.old self.new) }
+        ensures err { IfErr result (OrNoMemory (RefusesMerge other.now checks self.old)) }
         // Two clauses: by one of them, by cases of the fault, callers' proofs are not found.
-        ensures left { OnErr result (LeavesMerge other.now self.old self.new) }
+        ensures left { OnErr result (LeavesMerge other.now checks self.old self.new) }
         ensures kept { IfErr result (λ fault. fault ≢ NoMemory → self.new ≡ self.old) }
     {
         let cells = other.catalogue();
-        join_in(alloc, &mut self.share, &mut self.spare, cells)
+        match check_limit(cells, checks.not_after) {
+            Ok(()) => join_own_in(
+                alloc,
+                &mut self.share,
+                &mut self.spare,
+                cells,
+                checks.own_edits,
+            ),
+            Err(fault) => Err(fault),
+        }
     }
 
-    /// Joins the cells of a delta for this site, as its document has them: [`Site::take`]. Where
-    /// there is a limit no time of the delta may be greater.
+    /// Joins the cells of a delta for this site, if they pass the checks, as its document has them:
+    /// [`Site::take`].
     ///
-    /// Refused, and then the site is unchanged, are the delta as [`read_delta_until`] refuses it,
-    /// by document 1 (29 with the first row whose time is greater), then one for another site (15),
-    /// then one stamp with two labels (13). After 26 each key has its old cell, or none as before,
-    /// or that of the join, so that a repeat gives the join.
-    pub fn take(
-        &mut self,
-        alloc: Global,
-        delta: &[u8],
-        not_after: Option<u64>,
-    ) -> Result<(), FrontFault>
-        ensures ok { OnOk result (IsTaken delta.now not_after self.old self.new) }
-        ensures err { IfErr result (OrNoMemory (RefusesTake delta.now not_after self.old)) }
-        ensures left { OnErr result (LeavesTake delta.now not_after self.old self.new) }
+    /// Refused, and then the site is unchanged, are the delta as [`read_delta_until`] refuses it
+    /// (29 with the first row whose time is after the limit), then one for another site (15), then
+    /// an edit of this site that it lacks (30 with its row), then one stamp with two labels (13).
+    /// The delta is document 1. After 26 each key has its old cell, or none as before, or that of
+    /// the join, so that a repeat gives the join.
+    pub fn take(&mut self, alloc: Global, delta: &[u8], checks: Checks) -> Result<(), FrontFault>
+        ensures ok { OnOk result (IsTaken delta.now checks self.old self.new) }
+        ensures err { IfErr result (OrNoMemory (RefusesTake delta.now checks self.old)) }
+        ensures left { OnErr result (LeavesTake delta.now checks self.old self.new) }
         ensures kept { IfErr result (λ fault. fault ≢ NoMemory → self.new ≡ self.old) }
     {
-        let delta = read_delta_until(alloc, delta, not_after)?;
-        take_in(alloc, &mut self.share, &mut self.spare, &delta)
+        let delta = read_delta_until(alloc, delta, checks.not_after)?;
+        take_in(
+            alloc,
+            &mut self.share,
+            &mut self.spare,
+            &delta,
+            checks.own_edits,
+        )
     }
 
     /// Puts each label of the language maps at the time `now`, in ascending order of id and

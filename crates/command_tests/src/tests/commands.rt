@@ -16,7 +16,7 @@ const WORDS: &str = r#"0|pick zh-Hant-CN-x-private1-private2 zh-Hant en|-|matche
 3|new --site Paris|-|refused 27: site name
 0|explain 27|-|~refusal 27
 0|help pick|-|~Usage: lexicat pick [OPTIONS] <RANGES> <TAG>...
-0|--version|-|lexicat 0.3.0
+0|--version|-|lexicat 0.4.0
 3|filter --id @m en;q=2|-|refused 10: message id
 4|put --now +5 --id m --lang @none a b|-|refused 24: read fault
 2|explain 31|-|~--help
@@ -42,6 +42,7 @@ const DOCUMENTS: &str =
 0|lookup --id m --default en ja|{"cells":[["m","en",5,"a",0,["a"]]],"kind":"site","site":"a","version":2}|default en ["a"]
 0|bundle --widen en|{"cells":[["m","en-us",5,"a",0,["a"]]],"kind":"site","site":"a","version":2}|{"m":{"en-us":"a"}}
 0|summary|{"cells":[["m","en",5,"a",0,["a"]]],"kind":"site","site":"a","version":2}|{"kind":"summary","owner":"a","stamps":[["m","en",5,"a",0]],"version":2}
+0|summary --labels|{"cells":[["m","en",5,"a",0,["a"]]],"kind":"site","site":"a","version":2}|{"kind":"summary","labels":["2b288c997252f102"],"owner":"a","stamps":[["m","en",5,"a",0]],"version":2}
 0|delta|{"cells":[["m","en",5,"a",0,["a"]]],"kind":"site","site":"a","version":2} / {"kind":"summary","owner":"b","stamps":[],"version":2}|{"cells":[["m","en",5,"a",0,["a"]]],"kind":"delta","to":"b","version":2}
 3|take --not-after 4|{"cells":[],"kind":"site","site":"b","version":2} / {"cells":[["m","en",5,"a",0,["a"]]],"kind":"delta","to":"b","version":2}|refused 29: time is ahead in row 0 of document 2
 0|sync|{"cells":[["m","en",5,"a",0,["a"]]],"kind":"site","site":"a","version":2} / {"cells":[],"kind":"site","site":"b","version":2}|{"cells":[["m","en",5,"a",0,["a"]]],"kind":"site","site":"a","version":2} / {"cells":[["m","en",5,"a",0,["a"]]],"kind":"site","site":"b","version":2}

@@ -2,7 +2,9 @@
 
 use cata_core::CataFault;
 use cell_core::{SiteName, Stamp};
-use docs_core::{Checks, Doc, import_document, sync_documents, take_document, update_document};
+use docs_core::{
+    Checks, Doc, OwnEdits, import_document, sync_documents, take_document, update_document,
+};
 use front_core::{Change, FrontFault, OpenSite, Question, SiteIn, View};
 use std::alloc::Global;
 use std::process::Abort;
@@ -82,7 +84,7 @@ fn edited(
             import_document(alloc, document, now, new)?
         }
         2 => {
-            open.merge(alloc, OpenSite::read(alloc, OTHER)?.site())?;
+            open.merge(alloc, OpenSite::read(alloc, OTHER)?.site(), Checks::none())?;
             sync_documents(alloc, document, OTHER, Checks::none())?.0
         }
         3 => {
@@ -90,7 +92,7 @@ fn edited(
             Change::delete(alloc, b"n", b"en")?.make_in_document(alloc, document, now)?
         }
         4 => {
-            open.take(alloc, DELTA, None)?;
+            open.take(alloc, DELTA, Checks::none())?;
             take_document(alloc, document, DELTA, Checks::none())?
         }
         _ => {
@@ -172,6 +174,43 @@ fn an_import_that_is_refused_midway(rt: HostRuntime) -> Result<(), Fail> {
 const CLASH: &[u8] = b"{\"cells\":[[\"m\",\"fr\",6,\"paris\",0,[\"other\"]]],\
     \"kind\":\"site\",\"site\":\"paris\",\"version\":2}\n";
 
+/// A merge of what does not pass the checks: a time after the limit, or else an edit of the site
+/// itself that it lacks, in row 1 of the other site.
+#[test]
+fn a_merge_that_does_not_pass(rt: HostRuntime) -> Result<(), Fail> {
+    let alloc = rt.alloc();
+    let later = OpenSite::read(alloc, WITH_FR)?;
+    let mut open = OpenSite::read(alloc, SITE)?;
+    let share = open.share()?;
+    assert_row_1(&rt, open.merge(alloc, later.site(), checked(Some(5))), 29);
+    assert_row_1(&rt, open.merge(alloc, later.site(), checked(Some(6))), 30);
+    assert_row_1(&rt, open.merge(alloc, later.site(), checked(None)), 30);
+    assert_site(&rt, alloc, &share, SITE);
+    assert_site(&rt, alloc, &open, SITE);
+    open.merge(alloc, later.site(), Checks::none())?;
+    assert_site(&rt, alloc, &open, WITH_FR);
+    assert_site(&rt, alloc, &share, SITE);
+    Ok(())
+}
+
+/// Checks with this limit that look for the site's own edits.
+fn checked(not_after: Option<u64>) -> Checks {
+    Checks {
+        not_after,
+        own_edits: OwnEdits::Checked,
+    }
+}
+
+/// The edit is refused by this number, for row 1 of document 1.
+fn assert_row_1(rt: &impl Abort, edit: Result<(), FrontFault>, number: u8) {
+    let Err(fault) = edit else {
+        return assert_eq!(rt; 0, number);
+    };
+    assert_eq!(rt; fault.number(), number);
+    assert_eq!(rt; fault.row(), Some(1));
+    assert_eq!(rt; fault.document(), 1);
+}
+
 /// A merge that is refused, into a copy and into the spare.
 #[test]
 fn a_merge_that_is_refused(rt: HostRuntime) -> Result<(), Fail> {
@@ -185,7 +224,7 @@ fn a_merge_that_is_refused(rt: HostRuntime) -> Result<(), Fail> {
     };
     for _ in 0..2 {
         let share = open.share()?;
-        let refused = open.merge(alloc, clash.site());
+        let refused = open.merge(alloc, clash.site(), Checks::none());
         assert_refused(&rt, refused, CataFault::StampReused { place: 1, stamp });
         assert_site(&rt, alloc, &share, WITH_FR);
         assert_site(&rt, alloc, &open, WITH_FR);

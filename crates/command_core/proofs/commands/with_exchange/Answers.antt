@@ -6,9 +6,8 @@ use Rattle.command_core.proofs.commands.with_exchange.Goals as goal
 -- before it gave, and where memory ended nothing is promised.
 pub returns : goal.returns
 returns c =
-    let with_summary = with_command _ _ (Ok c.args.program) (Ok c.reading-summary.result)
-    c.with_command-program.result refl c.reading-summary.ensures
-    c.with_command-program.ensures in
+    let with_summary = with_command _ _ (Ok c.args.program) c.summary.result
+    c.with_command-program.result refl c.summary.ensures c.with_command-program.ensures in
     let with_delta = with_command _ _ c.with_command-program.result (Ok c.reading-delta.result)
     c.with_command-program-2.result with_summary c.reading-delta.ensures
     c.with_command-program-2.ensures in
