@@ -1,4 +1,9 @@
 -- That premises of the laws are needed: edits and runs that show it.
+--
+-- For each premise there is a small example in which it fails and the law is false. Two cells of
+-- one stamp make a list that is not settled, so that its catalogue depends on the order. Two sites
+-- that edit with one stamp take the same edits and end with different cells. A delta loses cells if
+-- its receiver lacks what its summary shows. Each example is computed.
 use Rattle.std.proofs.Common.{◌≡◌, ◌≢◌, ℕ, zero, suc, List, [], ◌∷◌, Some, None, inl, inr, refl}
 use Rattle.std.proofs.Common.{sym, ap, ◌∙◌, arith}
 use Rattle.std.specs.Prelude.{Contains, All, ◌<◌, slice_index_or}

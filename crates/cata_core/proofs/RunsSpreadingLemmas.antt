@@ -1,4 +1,9 @@
 -- What sites took only grows, holds only edits of the steps, and reaches the others.
+--
+-- All of it is induction over the steps. One step appends to what a site took or leaves it, so a
+-- member stays a member. What a step appends is its own edit, or what another site took before, so
+-- each member is some step's edit. If each site hears of each other after the last edit, each edit
+-- reaches all sites, and all come to one catalogue.
 use Rattle.std.proofs.Common.{◌≡◌, ℕ, zero, suc, ◌<◌, true, false, List, [], ◌∷◌, ◌++◌, Option}
 use Rattle.std.proofs.Common.{Some, None, length, inl, inr, refl, sym, ap, ◌∙◌, subst, arith}
 use Rattle.std.specs.Prelude.{◌==◌, if◌then◌else◌, slice_get, Contains, All}

@@ -1,4 +1,11 @@
 -- With deltas too, what the sites hold is the catalogue of what they took.
+--
+-- Two machines run over the same steps: one keeps the list of edits that each site took, the other
+-- the cells that it holds. The invariant ties them: what is held is the catalogue of what was
+-- taken, a summary is that of some edits its owner took, and a post is the delta of the sender's
+-- edits for such a summary. A delta joins to what all the sender's edits would, since what it
+-- leaves out is known to the receiver. So each step keeps the invariant, and with consistent edits
+-- none clashes.
 use Rattle.std.proofs.Common.{◌≡◌, ℕ, zero, suc, ◌+◌, true, false, List, [], ◌∷◌, ◌++◌, Option}
 use Rattle.std.proofs.Common.{Some, None, inl, inr, refl, sym, ap, ◌∙◌, subst}
 use Rattle.std.specs.Prelude.{◌==◌, if◌then◌else◌, slice_get, IsSomeAnd}

@@ -1,4 +1,10 @@
 -- How a run goes on by one step.
+--
+-- A world is the cells of each site, the summaries that were told and the deltas that were posted.
+-- Each function of `play` writes one site, tells one summary or posts one delta. For each the lemma
+-- says that this is the step of the definition: the site that is named has the joined cells, all
+-- else is as before, and where cells clash the fault is the step's. A step names sites that exist,
+-- so each place that is read is there.
 use Rattle.std.proofs.Common.{◌≡◌, ℕ, zero, suc, ◌<◌, true, false, List, [], ◌∷◌, ◌++◌, Some}
 use Rattle.std.proofs.Common.{length, get_or, refl, sym, ap, ◌∙◌, subst, Ok, Err}
 use Rattle.std.specs.Prelude.{◌==◌, if◌then◌else◌, slice_set, IsSomeAnd, All, OnOk}

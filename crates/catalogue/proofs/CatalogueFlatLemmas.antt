@@ -1,4 +1,10 @@
 -- What a map of maps and its flat list have in common.
+--
+-- A catalogue is kept by message and then by language, and its meaning is the flat list of pairs of
+-- keys. To find a pair is to find the message and then the language; to put one is to put it in the
+-- inner map, and that in the outer. The flat list of a map of maps is a map, and the flat list
+-- tells the map of maps. So the join, agreement and what lies between can be said of either, and
+-- mean the same.
 use Rattle.std.proofs.Common.{◌≡◌, suc, ◌<◌, true, false, cond, List, [], ◌∷◌, ◌++◌, length, get_or}
 use Rattle.std.proofs.Common.{Option, Some, None, sym, ap, ◌∙◌, subst, refl, arith, inl, inr}
 use Rattle.std.specs.Prelude.{T, All}

@@ -1,4 +1,9 @@
 -- The latest stamp of a catalogue.
+--
+-- It is computed as the greatest over the cells, and absent if there are none. Taking the later of
+-- two that may be absent is associative, so the cells may be grouped in any way, as chunks and
+-- messages do. The result is a cell's stamp and no cell has a later one. A cell that is written
+-- with a stamp above all becomes the latest.
 use Rattle.std.proofs.Common.{◌≡◌, ◌≢◌, true, false, cond, [], ◌∷◌, Option, Some, None}
 use Rattle.std.proofs.Common.{inl, inr, refl, sym, ap, ◌∙◌, subst}
 use Rattle.std.specs.declared.cmp.Ordering.{Ordering}

@@ -1,4 +1,10 @@
 -- What changed between two catalogues.
+--
+-- Both are walked side by side in ascending order of key, which gives at each key of either what
+-- both have there; those that are equal are left out. What is below the first key of a map is below
+-- all of it, so the walk finds at a key what the maps have. From that follow the laws: there is one
+-- list, it is empty just if the catalogues are equal, the changes made to the first give the
+-- second, and parts and exchange commute with it.
 use Rattle.std.proofs.Common.{◌≡◌, ◌∙◌, ℕ, List, [], ◌∷◌, Option, Some, None, Bool, true, false}
 use Rattle.std.proofs.Common.{◌⊎◌, inl, inr, cond, refl, sym, ap, subst, nat_eq, true≢false}
 use Rattle.std.specs.Prelude.{◌↔◌, ◌≢◌, T, map, not}

@@ -1,4 +1,9 @@
 -- Walks that look for the first place where two catalogues do not agree.
+--
+-- `IsAgreed` is the invariant: the first entries of both agree, and these are left. A key that one
+-- map has alone agrees with anything, so it is passed over; a common key whose cells agree too. At
+-- the first that does not, its place is the first clash, as all before it agree. The walk goes
+-- message by message, and the place within a message is added to the number of cells before it.
 use Rattle.std.proofs.Common.{◌≡◌, ℕ, zero, suc, ◌+◌, ◌-◌, ◌<◌, ◌≤◌, List, [], ◌∷◌, ◌++◌, length}
 use Rattle.std.proofs.Common.{length-append, drop, Option, Some, None, inl, inr, refl, sym, ap, ◌∙◌}
 use Rattle.std.proofs.Common.{subst, arith}

@@ -1,5 +1,11 @@
 -- Runs of entries: what one of them does to a chunk, it does to the whole, and runs joined one by
 -- one join all.
+--
+-- The keys of a run are between those of the chunk's neighbours, so each key of the run has in all
+-- entries what it has in its chunk. Then the chunk joined with the run is the middle of the whole
+-- join, and the fronts and backs are as before. What is joined with one part and then with the next
+-- is joined with both. Where memory ends within a run, the entries are on the way from the first
+-- ones to the whole join.
 use Rattle.std.proofs.Common.{◌≡◌, ℕ, suc, ◌+◌, ◌<◌, ◌≤◌, true, false, cond, List, [], ◌∷◌, ◌++◌}
 use Rattle.std.proofs.Common.{length, get_or, set, take, drop, Option, Some, None, sym, ap, ◌∙◌}
 use Rattle.std.proofs.Common.{subst, refl, arith, append_assoc, append-nil, length-append}

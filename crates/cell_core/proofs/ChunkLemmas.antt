@@ -1,4 +1,10 @@
 -- Maps in chunks.
+--
+-- The entries of a map are those of its chunks in order, and no chunk is empty. So the chunk of a
+-- key is the last whose first key is not above it: all entries before that chunk are below the key,
+-- and all after it above, and a search of all entries finds what a search of this chunk finds. A
+-- chunk that is cut in two, or into which an entry is put, leaves the entries before and after it
+-- as they are.
 use Rattle.std.proofs.Common.{◌≡◌, ℕ, suc, zero, ◌<◌, true, false, cond, List, [], ◌∷◌, ◌++◌}
 use Rattle.std.proofs.Common.{length, get_or, set, take, drop, Some, sym, ap, ◌∙◌, subst, refl}
 use Rattle.std.proofs.Common.{arith, true≢false, append_assoc}

@@ -1,4 +1,10 @@
 -- New entries moved to their places among the entries of a map.
+--
+-- The new entries are known with the gaps where they belong. The entries from the first gap on are
+-- taken out, and put back one after another with the new ones between them, so that each moves
+-- once. `IsInterleaved` is the invariant: what is in order so far, and the new entries left, which
+-- belong after it. Once none is left the list is the map with all put. Joining the values of common
+-- keys moves no gap, so the two may be done one after the other.
 use Rattle.std.proofs.Common.{◌≡◌, ℕ, suc, ◌+◌, ◌≤◌, true, false, cond, not, is_some, List, [], ◌∷◌}
 use Rattle.std.proofs.Common.{◌++◌, length, take, slice_get, Option, Some, None, sym, ap, ◌∙◌}
 use Rattle.std.proofs.Common.{subst, refl, arith}

@@ -1,4 +1,9 @@
 -- What is at the place of a key, and what an edit there does.
+--
+-- The place of a key is the number of entries with a lesser key. All before it are lesser, and all
+-- from it on are not; so the key is in the map just if the entry at its place has it. To put is
+-- then to set the value at the place, or to insert an entry there. The last part goes over the
+-- entries one by one, for loops that compare two maps.
 use Rattle.std.proofs.Common.{◌≡◌, ℕ, suc, ◌+◌, ◌<◌, ◌≤◌, true, false, cond, List, [], ◌∷◌, ◌++◌}
 use Rattle.std.proofs.Common.{length, get_or, set, take, Some, None, zero, sym, ap, ◌∙◌, subst}
 use Rattle.std.proofs.Common.{refl, arith, true≢false, inl, inr, ◌⊎◌}

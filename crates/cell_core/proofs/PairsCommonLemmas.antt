@@ -1,4 +1,9 @@
 -- The walk that joins common values in place, and what is missing then.
+--
+-- For each entry of the other map its place among the own entries is found. If the key is there,
+-- the value is joined in place; if not, the entry is noted with its gap. Only values change, so the
+-- places of other keys stay. If the walk stops for want of memory, the map is on the way from the
+-- old one to the join, as each value is the old one or the joined one.
 use Rattle.std.proofs.Common.{◌≡◌, ℕ, suc, zero, ◌+◌, ◌<◌, ◌≤◌, true, false, cond, not, is_some}
 use Rattle.std.proofs.Common.{List, [], ◌∷◌, ◌++◌, length, get_or, set, take, Option, Some, None}
 use Rattle.std.proofs.Common.{sym, ap, ◌∙◌, subst, refl, arith, inl, inr, append-nil}

@@ -1,4 +1,10 @@
 -- When a stamp is the least new one of a site.
+--
+-- Stamps are ordered by time, then site, then count. The next one of a site must be above its last
+-- one and not before now. By cases of the last stamp: if it is before now, or its site is below
+-- this one at the same time, the first stamp of this site at that time is the least. If it is of
+-- this site, the next count is, and at the last count, or if its site is above, the first stamp at
+-- the next time.
 use Rattle.std.proofs.Common.{◌≡◌, ◌≢◌, ℕ, ◌+◌, ◌<◌, ◌≤◌, ◌^◌, ◌⊎◌, inl, inr, false, List}
 use Rattle.std.proofs.Common.{Option, Some, None, sym, ap, ◌∙◌, refl, arith}
 use Rattle.std.proofs.lemmas.Bool.{cases_lt}

@@ -1,4 +1,9 @@
 -- The unsigned whole numbers of a text that is read are below 2 ^ 64.
+--
+-- The reader makes an unsigned whole number of a token only if it fits 64 bits; else the number is
+-- read as another kind. By induction over the value all such numbers in it are below 2 ^ 64, those
+-- of its members and items among them. So a time or a count that is taken out of a value fits its
+-- field.
 use Rattle.std.proofs.Common.{◌≡◌, ◌∙◌, ◌<◌, ◌^◌, ◌==◌, ℕ, List, [], ◌∷◌, Bool, true, false}
 use Rattle.std.proofs.Common.{get_or, ltb-true, refl, subst, sym}
 use Rattle.std.specs.Ordering.{nat_cmp, match_ordering}

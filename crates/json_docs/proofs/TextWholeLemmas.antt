@@ -1,4 +1,9 @@
 -- The whole text of a document.
+--
+-- A text reads as a value if its tokens are those of the value, none is left, and its numbers are
+-- in range. A reader that stops at the first value has to see that nothing comes after it. For each
+-- of its three endings (an object alone, something after it, no object) there is a lemma, and a
+-- text that begins with no brace is no object.
 use Rattle.std.proofs.Common.{◌≡◌, ◌∙◌, ◌+◌, ◌≤◌, ℕ, List, [], ◌∷◌, Bool, true, false, length}
 use Rattle.std.proofs.Common.{ap, sym, refl, inl, inr, arith}
 use Rattle.std.specs.Prelude.{Option, None, Some, is_some, option_map}

@@ -1,4 +1,9 @@
 -- The text of a range as a basic one.
+--
+-- Lookup (RFC 4647, section 3.4) takes an extended range without its subtags "*", but for one that
+-- begins with "*", which is "*" alone. The text is put together subtag by subtag, each with its
+-- hyphen, so its pieces are the subtags that stay. These have the form of a basic range, in lower
+-- case, and a basic range is its own lookup text.
 use Rattle.std.proofs.Common.{ℕ, ◌≡◌, ◌<◌, ◌+◌, ◌==◌, inl, inr, List, [], ◌∷◌, ◌++◌, Bool, true}
 use Rattle.std.proofs.Common.{false, length, refl, sym, ◌∙◌, ap, arith, append-nil, get_or}
 use Rattle.std.specs.Prelude.{not, zero, suc}

@@ -1,4 +1,9 @@
 -- Texts of the bytes that tags and ranges have.
+--
+-- A short text is kept in sixteen bytes with zero bytes after it, and read as one number, the first
+-- byte highest. As no byte of the text is zero, such texts are equal just if their numbers are, and
+-- are in the order of their numbers: one more byte decides only if those before it are equal. Lower
+-- case is made byte by byte, and zero bytes have none.
 use Rattle.std.proofs.Common.{ℕ, ◌≡◌, ◌<◌, true, List, [], ◌∷◌, arith, ◌+◌, ◌-◌, ◌≤◌, ◌++◌, length}
 use Rattle.std.proofs.Common.{take, replicate, refl, sym, ap, ◌∙◌, subst, All, drop}
 use Rattle.std.proofs.Common.{drop_of_length-le, drop-cons, length-append, ◌*◌, ◌/◌, ◌^◌}

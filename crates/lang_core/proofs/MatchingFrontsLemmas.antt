@@ -1,4 +1,9 @@
 -- Fronts of texts and fronts of lists of subtags.
+--
+-- RFC 4647, section 3.3.1, matches a range to a tag if its subtags are the tag's first ones. Here
+-- the same is decided by bytes: the range is a front of the tag, and right after it the tag ends or
+-- has a hyphen. A text whose bytes go on after the front, at the end of a subtag, has the front's
+-- subtags first, and the other way round. Lower case changes neither hyphens nor lengths.
 use Rattle.std.proofs.Common.{ℕ, ◌≡◌, ◌<◌, ◌+◌, inl, inr, List, [], ◌∷◌, ◌++◌, Bool, true, false}
 use Rattle.std.proofs.Common.{length, take, drop, refl, sym, ◌∙◌, ap, subst, arith, append_assoc}
 use Rattle.std.proofs.Common.{append-nil, length-append, take-append-drop}

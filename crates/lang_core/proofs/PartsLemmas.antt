@@ -1,4 +1,10 @@
 -- The parts of a tag.
+--
+-- A langtag (RFC 5646, section 2.1) is its language, extlangs, script, region, variants and the
+-- rest, one after another. Each getter takes from the front of what is left those subtags that have
+-- the form of its part. What comes next has another form, as the grammar has it, so each part ends
+-- where the next begins. The language is the first subtag, and a tag whose first subtag is "x" has
+-- no parts.
 use Rattle.std.proofs.Common.{ℕ, ◌≡◌, ◌≤◌, inl, inr, List, [], ◌∷◌, ◌++◌, Bool, true, false}
 use Rattle.std.proofs.Common.{length, take, drop, refl, sym, ◌∙◌, ap, subst, arith, Some, None}
 use Rattle.std.proofs.Common.{Option}

@@ -1,4 +1,9 @@
 -- The pieces of a text.
+--
+-- A text is cut at each hyphen. If it has none it is its one piece; else its first piece ends at
+-- the first hyphen, and the rest has the other pieces. Two texts with a hyphen between them have
+-- the pieces of both, and the pieces joined by hyphens are the text. So induction over pieces can
+-- stand in for induction over bytes. A text has at most one piece more than bytes.
 use Rattle.std.proofs.Common.{ℕ, ◌≡◌, ◌≤◌, ◌<◌, ◌+◌, ◌-◌, ◌==◌, get_or, sym, ap, ◌∙◌, inl, inr}
 use Rattle.std.proofs.Common.{List, [], ◌∷◌, ◌++◌, Some, None, Bool, true, false, cond, ltb, length}
 use Rattle.std.proofs.Common.{take, drop, sum_by, refl, arith, length-drop}

@@ -1,4 +1,9 @@
 -- Lists of pieces that the grammars of ranges allow.
+--
+-- RFC 4647, section 2, has two grammars: a basic range, and an extended one, in which any subtag
+-- may be "*". Both are read piece by piece, and the first piece that is not allowed at its place
+-- refuses the range. A list is of the form just if no piece is refused. The bytes of a range are
+-- letters, digits, hyphens and "*".
 use Rattle.std.proofs.Common.{ℕ, ◌≡◌, ◌<◌, ◌+◌, ◌==◌, inl, inr, List, [], ◌∷◌, ◌++◌, Bool, true}
 use Rattle.std.proofs.Common.{false, length, refl, sym, ◌∙◌, ap, subst, arith}
 use Rattle.std.specs.Prelude.{◌||◌, IsTrue, zero, suc}

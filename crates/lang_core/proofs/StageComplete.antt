@@ -1,4 +1,10 @@
 -- The stages accept each private tag and each langtag.
+--
+-- A stage says what may come next in a tag. For the parts of RFC 5646's grammar from the last to
+-- the first: a stage at which the tag may end accepts the empty rest, extensions and a private
+-- part; one that may vary accepts variants before these; one that may place accepts a region before
+-- those; and so on to the language. Each part is accepted by steps of its subtags, and leaves a
+-- stage that accepts the rest.
 use Rattle.std.proofs.Common.{ℕ, ◌≡◌, ◌≤◌, ◌<◌, ◌-◌, ◌⊎◌, inl, inr, List, [], ◌∷◌, ◌++◌, Some}
 use Rattle.std.proofs.Common.{Option, true, length, refl, sym, subst, arith, append_assoc}
 use Rattle.std.specs.Prelude.{nat_lt}

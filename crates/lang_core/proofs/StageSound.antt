@@ -1,4 +1,9 @@
--- The stages accept a list exactly where it is a private tag or a langtag.
+-- The stages accept a list only if it is a private tag or a langtag.
+--
+-- `Follows` gives for each stage the lists that may follow it to the end of the tag, as RFC 5646's
+-- grammar has them. By induction over the list, what the stages accept from a stage on follows it:
+-- the first subtag is of one class, and the stage after it says what the rest is. From the first
+-- stage this is the grammar itself.
 use Rattle.std.proofs.Common.{ℕ, ◌≡◌, ◌≤◌, ◌<◌, ◌-◌, ◌⊎◌, inl, inr, List, [], ◌∷◌, ◌++◌, Some, None}
 use Rattle.std.proofs.Common.{Option, Bool, true, false, cond, length, refl, sym, ◌∙◌, ap, arith}
 use Rattle.std.specs.Prelude.{IsTrue, nat_lt, ◌&&◌}

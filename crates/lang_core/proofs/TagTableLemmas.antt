@@ -1,4 +1,10 @@
 -- The table that reads tags says what the stages say.
+--
+-- A state of the table is a stage and as much of a subtag as matters: its length, whether it is of
+-- letters or of digits, whether it begins with a digit, and whether it is "x". What the table has
+-- to say of each state and each class of byte is one test over all of them (`is_table`), which is
+-- computed once. Then by induction over the bytes the state after a text is that of the stage after
+-- its subtags and of what is read of the last one.
 use Rattle.std.proofs.Common.{ℕ, ◌≡◌, ◌<◌, ◌≤◌, ◌+◌, ◌*◌, ◌-◌, ◌==◌, ◌⊎◌, inl, inr, get_or, List}
 use Rattle.std.proofs.Common.{[], ◌∷◌, ◌++◌, Bool, true, false, length, take, Option, Some, None}
 use Rattle.std.proofs.Common.{refl, sym, ◌∙◌, ap, subst, arith, append_assoc, append-nil}

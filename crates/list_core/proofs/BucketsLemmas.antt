@@ -1,4 +1,10 @@
 -- Items in buckets.
+--
+-- The items of a long list are put into buckets by one subtag of each range other than "*"; those
+-- without one are in the last bucket. A range that matches a tag has each such subtag in the tag,
+-- so only the buckets of the tag's subtags and the last one are searched. Places of a bucket are
+-- linked by ascending place. The best of several buckets is the better of each, and so the best of
+-- all items.
 use Rattle.std.proofs.Common.{ℕ, ◌≡◌, ◌≢◌, ◌≤◌, ◌<◌, ◌+◌, ◌⊎◌, List, [], ◌∷◌, ◌++◌, Option}
 use Rattle.std.proofs.Common.{Some, None}
 use Rattle.std.proofs.Common.{true, false, inl, inr, length, get_or, refl, sym, ◌∙◌, ap, subst}

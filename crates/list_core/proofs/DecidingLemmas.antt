@@ -1,4 +1,9 @@
 -- The deciding item.
+--
+-- Of the items that match a tag the one with the most subtags other than "*" decides, and of
+-- several the first written. There is one such place, and so one weight. It is found as the best of
+-- the items that fit, which is the same relation said by a walk. Under the basic match it is found
+-- by the fronts of the tag: the better of the best shorter range, of the equal one, and of "*".
 use Rattle.std.proofs.Common.{ℕ, ◌≡◌, ◌≤◌, ◌<◌, ◌+◌, ◌⊎◌, List, [], ◌∷◌, true, inl, inr, refl, sym}
 use Rattle.std.proofs.Common.{◌∙◌, ap, subst, arith, length, get_or, take, length-take-le}
 use Rattle.std.specs.Prelude.{Option, Some, None, MatchOption, IsSomeAnd}

@@ -1,4 +1,9 @@
 -- The best of items that fit.
+--
+-- The best up to a place is known place by place: an item that does not fit, or has no more subtags
+-- than the best so far, leaves it; one that has more takes its place. So the best is the most
+-- specific, and the first of those equal. What fits in one of two ways has as its best the better
+-- of the two. If the same items fit by two relations, their best is one.
 use Rattle.std.proofs.Common.{ℕ, ◌≡◌, ◌≤◌, ◌<◌, ◌+◌, ◌⊎◌, List, Bool, true, false, inl, inr, refl}
 use Rattle.std.proofs.Common.{sym, ap, subst, arith, length}
 use Rattle.std.specs.Prelude.{Option, Some, None}

@@ -1,4 +1,9 @@
 -- An element, read from left to right.
+--
+-- An element of a field (RFC 9110, section 12.5.4) is a range and what follows it, with blanks
+-- about it. The range has neither blanks nor a semicolon, so it ends at the first of these, and
+-- there is one way to cut an element. If the bytes up to there are no range, or those after it may
+-- not follow a range, no item fits the element; else one does.
 use Rattle.std.proofs.Common.{ℕ, ◌≡◌, ◌<◌, ◌⊎◌, inl, inr, List, [], ◌∷◌, ◌++◌, true, false, length}
 use Rattle.std.proofs.Common.{refl, sym, ◌∙◌, ap, subst, arith, append_assoc}
 use Rattle.std.specs.List.{list_all}

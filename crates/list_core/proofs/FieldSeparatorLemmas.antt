@@ -1,4 +1,10 @@
 -- A walk over a field's bytes, from element to element.
+--
+-- The definition cuts a field at its commas, and empty pieces give nothing. The code skips
+-- separators (blanks and commas) to the next byte of an element, and reads up to the next comma.
+-- `IsWalkedTo` ties the two: the bytes left are the end of the pieces left, after some blanks.
+-- Skipped separators are blanks before a piece, or empty pieces. What is left gets shorter with
+-- each element.
 use Rattle.std.proofs.Common.{ℕ, ◌≡◌, ◌≤◌, ◌<◌, ◌+◌, ◌-◌, ◌⊎◌, ◌==◌, true, false, inl, inr, List}
 use Rattle.std.proofs.Common.{[], ◌∷◌, ◌++◌, length, sum_by, refl, sym, ◌∙◌, ap, subst, arith}
 use Rattle.std.proofs.Common.{append_assoc, append-nil, length-append}

@@ -1,4 +1,9 @@
 -- A walk from piece to piece of a field.
+--
+-- `IsWalked` is the invariant: the pieces before an offset give the items so far, and the rest is
+-- still to come. A blank piece adds nothing, an element adds its item, and a malformed piece is
+-- passed over or ends the walk. Where it ends the walk, all before it was read, so it is the first
+-- malformed element, and its offset is that of its first byte after blanks.
 use Rattle.std.proofs.Common.{ℕ, ◌≡◌, ◌<◌, ◌+◌, ◌-◌, inl, inr, List, [], ◌∷◌, ◌++◌, length, sum_by}
 use Rattle.std.proofs.Common.{refl, sym, ◌∙◌, ap, subst, arith, append-nil}
 use Rattle.std.specs.List.{prefix_len}

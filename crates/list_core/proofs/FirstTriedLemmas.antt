@@ -1,4 +1,9 @@
 -- Where in the order of lookup an item is first tried that fits.
+--
+-- The keys of a list are in the order of lookup. Of each text the first key whose range has it is
+-- noted (`LeadsTo`); to ask for a tag is then to look up its fronts, each followed by a hyphen or
+-- the end, and take the least place found. Front by front the least so far is kept, and the range
+-- "*" is one more. What fits in one of two ways is first tried at the lesser of the two places.
 use Rattle.std.proofs.Common.{ℕ, ◌≡◌, ◌≤◌, ◌<◌, ◌+◌, ◌⊎◌, List, [], ◌∷◌, Option, Some, None}
 use Rattle.std.proofs.Common.{inl, inr, refl, sym, ◌∙◌, ap, subst, arith, get_or, length, take}
 use Rattle.std.proofs.Common.{length-take-le}

@@ -1,4 +1,9 @@
 -- The places of the items in the order of their ranges' bytes.
+--
+-- The index is the list of places, sorted by the range at each and then by place. A text is
+-- searched by halves: before the position all ranges are below the text, from it on none is. So if
+-- the range at the position has the text, its item is the first with it, and else no range has it.
+-- Without an index the items are searched in written order, which finds the same item.
 use Rattle.std.proofs.Common.{ℕ, ◌≡◌, ◌≤◌, ◌<◌, ◌+◌, List, [], ◌∷◌, true, false, inl, inr, refl}
 use Rattle.std.proofs.Common.{sym, ◌∙◌, ap, subst, arith, length, get_or}
 use Rattle.std.specs.Prelude.{Some, None, All, Contains, IsSorted, IsPermutation, map}

@@ -1,4 +1,9 @@
--- The numbers of subtags are equal where the subtags are, and are matched as those are.
+-- The numbers of subtags are equal if the subtags are, and are matched as those are.
+--
+-- A subtag has at most eight bytes, none of them zero, so it fits one number of 64 bits, and two
+-- subtags are equal just if their numbers are. A subtag of one byte is a number below 256, which
+-- tells a singleton. The extended match of RFC 4647, section 3.3.2, pairs subtags from left to
+-- right; each of its steps is one on numbers.
 use Rattle.std.proofs.Common.{ℕ, ◌≡◌, ◌≤◌, ◌<◌, ◌+◌, ◌*◌, ◌==◌, inl, inr, List, [], ◌∷◌, ◌++◌}
 use Rattle.std.proofs.Common.{Bool, true, false, cond, length, refl, sym, ◌∙◌, ap, subst, arith}
 use Rattle.std.proofs.Common.{drop, drop-cons, get_or, ◌-◌, length-drop, length-append}

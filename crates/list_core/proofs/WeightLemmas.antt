@@ -1,4 +1,10 @@
 -- Weights, read from left to right.
+--
+-- What follows a range is nothing, or a semicolon and "q=" with a qvalue (RFC 9110, section
+-- 12.4.2), with blanks about the semicolon and at the end. Each step takes one of these from the
+-- front and says that the rest has the same weight, or none. A qvalue ends at the first blank, and
+-- after it there may be blanks alone. What follows a range has at most one weight, and 1000 if it
+-- is blank.
 use Rattle.std.proofs.Common.{ℕ, ◌≡◌, ◌≤◌, ◌<◌, ◌-◌, take, drop, ◌⊎◌, inl, inr, List, [], ◌∷◌, ◌++◌}
 use Rattle.std.proofs.Common.{Bool, true, false, append-nil, refl, sym, ◌∙◌, ap, subst, arith}
 use Rattle.std.proofs.Common.{length, append_assoc}

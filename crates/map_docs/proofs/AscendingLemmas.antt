@@ -1,4 +1,9 @@
 -- Names that ascend, each with its labels, as they are read.
+--
+-- If the members of a document and the keys of each member ascend, each new key is above all before
+-- it. Then it is repeated nowhere, and its label goes to the end of the list. `AreAscendingKeys`
+-- and `AreAscendingRows` say this of the keys and of the messages so far. Where a name does not
+-- ascend this reader gives up, and the general one takes the document.
 use Rattle.std.proofs.Common.{◌≡◌, ◌∙◌, ◌||◌, ℕ, false, List, [], ◌∷◌, ◌++◌, map, length, refl}
 use Rattle.std.proofs.Common.{sym, ap, ap₂, subst, append_assoc, Option, Some, arith, true}
 use Rattle.std.specs.Prelude.{All, ◌<◌}

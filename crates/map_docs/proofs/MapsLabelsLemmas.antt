@@ -1,4 +1,10 @@
 -- Labels that are found key by key, and then put after those of lesser messages.
+--
+-- The keys of a message are in any order and in any case, so they are put into a tree, by their
+-- spelling in lower case; a key that is there already is refused as a repeated one. The labels of
+-- the tree ascend, and come after those of all lesser messages. `HoldsRows` is the invariant over
+-- the rows: what was read, which tests passed, and what labels they gave. The first key that fails
+-- a test gives the refusal.
 use Rattle.std.proofs.Common.{◌≡◌, ◌∙◌, ℕ, suc, ◌+◌, length, arith, add-zero, zero-add, Bool, true}
 use Rattle.std.proofs.Common.{false, List, [], ◌∷◌, ◌++◌, ◌||◌, cond, map, String, string_cmp}
 use Rattle.std.proofs.Common.{Global, Option, None, Some, string_bytes, refl, sym, ap, ap₂, subst}

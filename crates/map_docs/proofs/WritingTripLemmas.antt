@@ -1,4 +1,9 @@
 -- What is written of labels reads as those labels.
+--
+-- The labels are put together by message, which loses nothing, and written as an object of objects
+-- whose names ascend. Read again, each id is a message's, as none begins with "@"; each language is
+-- found once, since the languages ascend; and each string or array of strings is its label. So the
+-- value passes all tests and gives the same labels. The value of a text is read off its own tokens.
 use Rattle.std.proofs.Common.{◌≡◌, ◌∙◌, ◌≢◌, ◌≤◌, ◌+◌, ◌++◌, ℕ, suc, Bool, true, false, List, []}
 use Rattle.std.proofs.Common.{◌∷◌, map, Option, None, Some, length, refl, sym, ap, ap₂, subst}
 use Rattle.std.proofs.Common.{append_assoc, append-nil, inl, inr, arith, true≢false}

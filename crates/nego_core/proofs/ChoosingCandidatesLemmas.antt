@@ -1,4 +1,10 @@
 -- The first candidate that is open.
+--
+-- Lookup has a list of candidates: for each item, in the order of lookup, its range and what is
+-- left of it as subtags are cut off. The answer is the first that is held and not refused.
+-- `FirstFrom` says this of the keys from a place on: what the next key finds is found from here on,
+-- and if it finds nothing, what the later keys find. So the loop over the keys gives the answer,
+-- which is one.
 use Rattle.std.proofs.Common.{ℕ, ◌≡◌, ◌+◌, ◌≤◌, ◌<◌, ◌==◌, List, [], ◌∷◌, ◌++◌, Some, None, Option}
 use Rattle.std.proofs.Common.{Bool, true, refl, sym, ◌∙◌, ap, subst, append-nil, append_assoc, drop}
 use Rattle.std.proofs.Common.{get_or, length}

@@ -1,4 +1,8 @@
 -- The order of lookup: each item that is tried once, by weight downwards, then as written.
+--
+-- The keys of a list are made in written order and sorted by missing weight and place. Sorting
+-- gives a permutation, so each item that is tried comes once. In sorted keys no weight is above an
+-- earlier one, and keys of one weight keep their written order, as their places ascend.
 use Rattle.std.proofs.Common.{ℕ, ◌≡◌, ◌≤◌, ◌<◌, ◌+◌, ◌-◌, ◌==◌, List, [], ◌∷◌, Some, Option, Bool}
 use Rattle.std.proofs.Common.{true, false, cond, inl, inr, get_or, sum_by, refl, sym, ◌∙◌, ap}
 use Rattle.std.proofs.Common.{subst, arith}

@@ -1,4 +1,11 @@
 -- How languages are ranked by a priority list.
+--
+-- All candidates of all keys, widened or not, are one long list, and a lookup over some languages
+-- finds the first of it that is among them. Each language is ranked where it comes first in that
+-- list. So the ranked languages, searched for the first that is one of a message's, give what the
+-- whole list gives. `IsRankingTo` is the invariant of the walk over the keys: the languages ranked
+-- so far and what is still to come find what all keys find, and each language is ranked or still
+-- left. What an item matches by widening comes in ascending order of its bytes.
 use Rattle.std.proofs.Common.{ℕ, ◌≡◌, ◌+◌, ◌≤◌, ◌<◌, ◌⊎◌, List, [], ◌∷◌, ◌++◌, Option, Some, None}
 use Rattle.std.proofs.Common.{inl, inr, refl, sym, ◌∙◌, ap, subst, append-nil, append_assoc, arith}
 use Rattle.std.proofs.Common.{true, false, drop, get_or, length, take}

@@ -1,4 +1,8 @@
 -- Languages that are not ranked yet.
+--
+-- They are kept in a tree by their texts, each with its place. A language is there just if its text
+-- is. Each is put in once, at its first place; one that is ranked is taken out, and the others
+-- stay. So what is found by a text is the first language of that text which is not ranked yet.
 use Rattle.std.proofs.Common.{ℕ, ◌≡◌, ◌+◌, ◌≤◌, ◌<◌, ◌⊎◌, List, [], ◌∷◌, ◌++◌, Option, Some, None}
 use Rattle.std.proofs.Common.{Bool}
 use Rattle.std.proofs.Common.{true, false, inl, inr, refl, sym, ◌∙◌, ap, subst, arith, get_or, take}

@@ -1,4 +1,9 @@
 -- Texts in ascending order, each once.
+--
+-- The languages that a range matches are tried in ascending order of their bytes. The list of them
+-- is made by putting each text that passes at its place, which keeps the order. It has just the
+-- members that pass, and two ascending lists with the same members are one, so the definition by
+-- members and the list that is computed say the same.
 use Rattle.std.proofs.Common.{ℕ, ◌≡◌, ◌⊎◌, List, [], ◌∷◌, Bool, inl, inr, refl, sym, ◌∙◌, ap, subst}
 use Rattle.std.proofs.Common.{arith}
 use Rattle.std.specs.Prelude.{zero, suc, All, AllPairs, Contains, IsTrue, if◌then◌else◌}

@@ -1,4 +1,10 @@
 -- The language that the ranges of a list match first.
+--
+-- Of each language the first place in the order of lookup is found at which an item matches it and
+-- it is not refused. The earliest over a set of languages is that with the least place, and the
+-- least bytes among those of one place. Language by language the earliest so far is kept. At a
+-- place of the walk over the keys it is then known without a search whether the item there has a
+-- widened candidate: just if the earliest is matched there.
 use Rattle.std.proofs.Common.{ℕ, ◌≡◌, ◌+◌, ◌≤◌, ◌<◌, List, [], ◌∷◌, ◌++◌, Option, Some, None}
 use Rattle.std.proofs.Common.{true, false, inl, inr, refl, sym, ◌∙◌, ap, subst, arith, get_or, take}
 use Rattle.std.proofs.Common.{length}

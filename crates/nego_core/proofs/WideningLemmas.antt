@@ -1,4 +1,11 @@
 -- Widened lookup.
+--
+-- The widened candidates of an item are its candidates and then the languages that it matches, in
+-- ascending order. Widened lookup finds the first of all that is open. If a candidate of the item
+-- is open, that is the first; else the least language that fits is, if there is one. `WidenedFrom`
+-- says this of the keys from a place on, as the unwidened walk has it. The laws compare the two:
+-- what lookup finds at the first item, widened lookup finds, and where each match is among the
+-- candidates the two are equal.
 use Rattle.std.proofs.Common.{ℕ, ◌≡◌, ◌+◌, ◌≤◌, ◌<◌, ◌⊎◌, List, [], ◌∷◌, ◌++◌, Option, Some, None}
 use Rattle.std.proofs.Common.{Bool, true, false, inl, inr, refl, sym, ◌∙◌, ap, subst, append-nil}
 use Rattle.std.proofs.Common.{arith, drop, get_or, length, cond}

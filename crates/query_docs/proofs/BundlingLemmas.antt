@@ -1,4 +1,10 @@
 -- What lookups answer, message by message.
+--
+-- A bundle is the list of the answers of the lookups over each message. `IsBundling` is the
+-- invariant of the loop: the labels that are written, and those that are answered for the messages
+-- left, are those of all. A message adds its answer or nothing. That a shortlist may take the place
+-- of the whole priority list follows since it has all languages of the catalogue, and so those of
+-- each message.
 use Rattle.std.proofs.Common.{◌≡◌, ◌≢◌, ◌∙◌, ◌++◌, ℕ, zero, suc, true, false, cond, List, [], ◌∷◌}
 use Rattle.std.proofs.Common.{map, refl, sym, ap, subst, inl, inr, append_assoc, arith}
 use Rattle.std.specs.Prelude.{⊤, Contains, None, Option, Some, T, filter, slice_get}

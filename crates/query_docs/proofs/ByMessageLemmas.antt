@@ -1,4 +1,8 @@
 -- Cells that are given on message by message: one cell more, and one message more.
+--
+-- Cells come in ascending order of key, so those of one message come together. What is kept is the
+-- message that is read, with its cells so far; a cell of another id ends it and begins the next.
+-- The cells before and after a message have other ids, so its live labels are those of all cells.
 use Rattle.std.proofs.Common.{◌≡◌, ◌∙◌, ◌++◌, [], ◌∷◌, ℕ, List, ap, ap₂, append_assoc, cond}
 use Rattle.std.proofs.Common.{false, map}
 use Rattle.std.proofs.Common.{◌+◌, ◌<◌, add-one, drop, get_or, length, refl, subst, suc, sym, take}

@@ -1,4 +1,9 @@
 -- One member more.
+--
+-- A header is what was read so far of the members of a document that are no rows. Its members may
+-- come in any order, so it is compared with the list of names and values: a name shows in the
+-- header just if the list has it. One member more is of one class (the kind, the version, the
+-- subject, the rows, or another name) and changes this part alone.
 use Rattle.std.proofs.Common.{◌≡◌, ◌∙◌, ◌||◌, ℕ, List, Bool, true, false, codes, ap, subst, sym}
 use Rattle.std.proofs.Common.{refl}
 use Rattle.std.specs.Prelude.{Option, None, Some, is_some, option_and_then}

@@ -1,4 +1,9 @@
 -- What a text begins with: strings, with the escapes that are written, and numbers.
+--
+-- A string is searched sixteen bytes at once for a byte that ends it or needs an escape. The mask
+-- of a block has a bit for each of these stops, so that its lowest bit is the first stop, and a
+-- mask of 0 says that there is none. What comes before the first stop is written as it is. Then
+-- come the escapes, a letter or two digits, and numbers digit by digit.
 use Rattle.std.proofs.Common.{◌≡◌, ◌∙◌, ◌+◌, ◌*◌, ◌/◌, ◌%◌, ◌^◌, ◌<◌, ◌≤◌, ◌++◌, ℕ, List, []}
 use Rattle.std.proofs.Common.{◌∷◌, Bool, true, false, cond, not, ◌||◌, eqb, ltb, map, take}
 use Rattle.std.proofs.Common.{length, get_or, replicate, refl, ap, ap₂, sym, subst, arith}

@@ -1,4 +1,9 @@
 -- The tests of a header, by what was read of the members.
+--
+-- A document of JSON is tested member by member, in a fixed order. A header has for each of these
+-- tests what it needs: whether the member is there, and its value. So a header passes just if the
+-- members do, and the first test that it fails is the first that the members fail, which names the
+-- refusal.
 use Rattle.std.proofs.Common.{◌≡◌, ◌∙◌, ℕ, List, [], ◌||◌, Bool, true, false, codes, ap, sym, refl}
 use Rattle.std.proofs.Common.{inl, inr}
 use Rattle.std.specs.Prelude.{Option, None, Some, IsUtf8, is_some, option_and_then, unwrap_or}

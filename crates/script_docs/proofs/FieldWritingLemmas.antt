@@ -1,4 +1,9 @@
--- Where some field reads as a list, the one that is written does, and none is shorter.
+-- If some field reads as a list, the one that is written does, and none is shorter.
+--
+-- A weight is written with the fewest digits of its value, and an element without blanks. So each
+-- written element is no longer than the piece of any field that gives the same item, and has no
+-- comma. Piece by piece the written field reads as the same list; and since it is one field for one
+-- list, two lists with one written field are equal.
 use Rattle.std.proofs.Common.{ℕ, ◌≡◌, ◌≤◌, ◌<◌, ◌+◌, ◌-◌, ◌*◌, ◌/◌, ◌%◌, ◌==◌, inl, inr, List, []}
 use Rattle.std.proofs.Common.{◌∷◌, ◌++◌, Bool, true, false, cond, length, map, sum_by, refl, sym}
 use Rattle.std.proofs.Common.{◌∙◌, ap, subst, arith, append-nil, length-append}

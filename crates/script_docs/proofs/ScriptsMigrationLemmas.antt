@@ -1,4 +1,9 @@
 -- What is read of a script of version 1 is what its plain data become.
+--
+-- In version 1 a stamp has its site by a number. Only the row of an edit has a stamp, so that row
+-- alone is migrated: the number becomes the padded name of the site. All other steps have the same
+-- words and numbers in both versions, and are read as they stand. The list of steps follows item by
+-- item.
 use Rattle.std.proofs.Common.{◌≡◌, ◌∙◌, ℕ, List, [], ◌∷◌, Bool, true, false, codes, ap, sym, refl}
 use Rattle.std.specs.Prelude.{Option, None, Some, option_map, option_and_then, if◌then◌else◌}
 use Rattle.std.specs.Str.{str_to_ascii_lowercase}

@@ -1,4 +1,9 @@
 -- Rows that were written for steps are read as these steps.
+--
+-- For each kind of step the written row has the members that its reader wants, in the form that it
+-- wants, so that it reads as that step and passes its tests. The rows of a list follow one by one.
+-- In the other direction a row that some reader made a step of is a row that is written for it,
+-- which gives that each step of a run can be written.
 use Rattle.std.proofs.Common.{◌≡◌, ◌<◌, ◌^◌, ◌++◌, ℕ, List, [], ◌∷◌, map, refl, ap, ap₂, subst}
 use Rattle.std.proofs.Common.{sym, arith}
 use Rattle.std.specs.Prelude.{None, Option, Some, option_map}

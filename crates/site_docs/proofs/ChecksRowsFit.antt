@@ -1,4 +1,9 @@
 -- A document has no more rows than bytes.
+--
+-- Each item of an array has a token of its own at least, and each token has a byte. By induction
+-- over the tokens an array has fewer items than there are tokens, and so have the arrays of an
+-- object's members. An input has fewer than 2^64 bytes, so the rows of a site or a delta can be
+-- counted.
 use Rattle.std.proofs.Common.{◌≡◌, ◌∙◌, ◌+◌, ◌<◌, ◌≤◌, ℕ, List, [], ◌∷◌, ◌++◌, length}
 use Rattle.std.proofs.Common.{length-append, ap, arith, refl, subst, sym}
 use Rattle.std.specs.Prelude.{⊤, None, Option, Some, option_and_then, option_map, unwrap_or}

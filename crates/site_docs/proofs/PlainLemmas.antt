@@ -1,4 +1,9 @@
 -- Texts that are put together from what is written.
+--
+-- The reader of a written document takes its text from the front: a bracket, a string, a number, a
+-- comma. Each lemma says of one such piece that, with what was taken before it, it is the text that
+-- is written for one item, label, row or member more. Together they give that the whole text is
+-- that of the cells that were read, in the form that Silkwaram writes.
 use Rattle.std.proofs.Common.{◌≡◌, ◌∙◌, ◌++◌, ℕ, List, [], ◌∷◌, Bool, true, false, codes, decimal}
 use Rattle.std.proofs.Common.{map, refl, ap, sym, subst, append_assoc, append-nil, inl, inr, length}
 use Rattle.std.proofs.Common.{take}

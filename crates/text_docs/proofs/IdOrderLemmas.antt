@@ -1,4 +1,10 @@
--- Ids as they are written between quotes.
+-- Ids as they are written between quotes, and their order.
+--
+-- Two ids are compared by their written bytes, and no escape is resolved. As far as no backslash is
+-- written a byte means itself, so the two texts are ordered as the ids are. At a backslash the
+-- first character is cut off (`read_after`): the one byte that may come after it and mean itself is
+-- compared as that byte, and any other escape makes the comparison give no answer. The rest is
+-- induction over the characters.
 use Rattle.std.proofs.Common.{◌≡◌, ◌≢◌, ◌∙◌, ◌++◌, ◌∷◌, [], ℕ, List, Bool, true, false, ◌||◌}
 use Rattle.std.proofs.Common.{◌==◌, ◌⊎◌, inl, inr, refl, ap, cond, sym, subst, true≢false}
 use Rattle.std.proofs.Common.{Option, Some, None, ◌<◌, arith, get_or, length, suc}

@@ -1,4 +1,9 @@
 -- A document of some rows of another one: those of a message are all there.
+--
+-- The text of the rows between two places, with an opening and an end about it, is a document
+-- again, since each cut is before a byte of ASCII and at the border of a row. The rows left out are
+-- of other messages, so the live labels of the message are those of the whole site, and a question
+-- about this message has the same answer over both.
 use Rattle.std.proofs.Common.{◌≡◌, ◌∙◌, ◌<◌, ◌≤◌, ◌++◌, ◌∷◌, [], ℕ, List, Bool, true}
 use Rattle.std.proofs.Common.{false, cond, ◌⊎◌, inl, inr, refl, ap, sym, subst}
 use Rattle.std.proofs.Common.{arith, append_assoc, drop, take, take-append-drop}

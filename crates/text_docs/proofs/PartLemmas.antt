@@ -1,4 +1,9 @@
 -- Where the rows of a message lie among all rows of a document.
+--
+-- The search bisects the text. From any place it finds the next `]` with a comma after it, which is
+-- the border of a row (RowBorderLemmas), and compares the id of the row there. A row of a lesser id
+-- has no row of the message before it, as the keys of a site ascend; a row of a greater id has none
+-- after it. So the places between which the search ends have all rows of the message between them.
 use Rattle.std.proofs.Common.{◌≡◌, ◌∙◌, ◌+◌, ◌≤◌, ◌++◌, ◌∷◌, [], ℕ, List, Bool, true}
 use Rattle.std.proofs.Common.{false, cond, ◌==◌, ◌⊎◌, inl, inr, ⊎_elim, refl, ap, sym, subst}
 use Rattle.std.proofs.Common.{arith, append_assoc, codes, decimal, drop, take, take-append-drop}

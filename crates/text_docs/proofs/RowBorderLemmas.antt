@@ -1,5 +1,11 @@
 -- A place of a document that reads as the start of a row is one, after the `]` of a row: in a row
 -- no `]` outside of strings comes before a comma, and no string has a language after it.
+--
+-- A row is a few pieces: its brackets, its strings, its numbers and its commas. Each piece either
+-- has no `]` outside of strings, and is passed over, or is the array of a label, after whose `]`
+-- comes the bracket of the row. A `]` inside of a string is told apart by what comes after it: what
+-- reads as a row, or as the member `kind`, fits no rest of a string. So what is found is the end of
+-- a row.
 use Rattle.std.proofs.Common.{◌≡◌, ◌∙◌, ◌^◌, ◌<◌, ◌++◌, ◌∷◌, [], ℕ, List, Bool, true, false}
 use Rattle.std.proofs.Common.{cond, not}
 use Rattle.std.proofs.Common.{◌==◌, ◌⊎◌, inl, inr, ⊎_elim, refl, ap, sym, subst, arith}

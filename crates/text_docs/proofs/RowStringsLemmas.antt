@@ -1,4 +1,9 @@
 -- Strings with any escapes: how they are read, and where they end.
+--
+-- RFC 8259, section 7, gives four forms of a character: itself, a backslash and a letter, `\u` and
+-- four digits, and two of these for a surrogate pair. For each form `Passes` says what is read, and
+-- that it has no quote that ends the string. A string is a list of such characters, so its first
+-- quote after no backslash is its end, and it is one lexeme.
 use Rattle.std.proofs.Common.{◌≡◌, ◌∙◌, ◌++◌, ◌∷◌, [], ℕ, List, Bool, true, false, cond, ◌&&◌}
 use Rattle.std.proofs.Common.{◌||◌, ◌==◌, inl, inr, refl, ap, ap₂, sym, subst}
 use Rattle.std.proofs.Common.{append_assoc, true≢false, option_and_then}

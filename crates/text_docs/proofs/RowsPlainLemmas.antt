@@ -1,4 +1,9 @@
 -- The rows that Silkwaram writes are rows without blanks.
+--
+-- A byte of a text is written as itself, by a backslash and a letter, or by `\u00` and two digits;
+-- each of these is a form that RFC 8259 has, and means the byte. So the strings, arrays and rows
+-- that are written are rows without blanks, those of the cells, and every promise about rows
+-- without blanks holds of a written document.
 use Rattle.std.proofs.Common.{◌≡◌, ◌∙◌, ◌<◌, ◌≤◌, ◌++◌, ◌∷◌, [], ℕ, List, Bool, true, false}
 use Rattle.std.proofs.Common.{◌⊎◌, inl, inr, refl, ap, arith, append_assoc, map, suc, sym}
 use Rattle.std.proofs.Common.{subst, zero}

@@ -1,5 +1,9 @@
 -- Rows without blanks have the lexemes of the rows that Silkwaram writes for their entries, and so
 -- a document of them reads as the site.
+--
+-- Two texts with the same lexemes read as the same value. Row by row each lexeme is that of the
+-- written row: strings by RowStringsLemmas, brackets, commas and numbers as they are, and `null`
+-- before its bracket. The opening and the members after the rows are the same bytes in both.
 use Rattle.std.proofs.Common.{◌≡◌, ◌∙◌, ◌<◌, ◌^◌, ◌++◌, ◌∷◌, [], ℕ, List, Bool, true, false, codes}
 use Rattle.std.proofs.Common.{IsUtf8, append_assoc, ap, decimal, inl, inr, map, refl, sym}
 use Rattle.std.specs.Prelude.{None, Option, Some, option_and_then}
