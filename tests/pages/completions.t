@@ -1,10 +1,10 @@
 #!/usr/bin/env python3
 """Sees that the completions are those that tools/completions makes of the help, that each command
 and each option of the help is on the manual's page, and that the manual has each refusal; and the
-same of the options of lexicat's companions, and of the commands that lexicat-file takes. Bash, zsh,
+same of the options of its programs on files, and of the commands that lexicat-file takes. Bash, zsh,
 fish and mandoc look at their own files too, and the shells complete some lines. Reads the help of
-build/lexicat, or of the command that LEXICAT names, and that of companions/. Needed: bash; zsh,
-fish and mandoc, each for its own files.
+build/lexicat, or of the command that LEXICAT names, and that of the programs in build. Needed: bash;
+zsh, fish and mandoc, each for its own files.
 
 The arguments of each command are compared with the completions of bash, zsh and fish, and with the
 synopses of man/lexicat.1 and docs/COMMAND.md: the names of the options in their order, which of
@@ -26,10 +26,10 @@ import completions_in_shells  # noqa: E402
 import tap  # noqa: E402
 
 ROOT = command_help.ROOT
-COMPANIONS = ["lexicat-file", "lexicat-edit", "lexicat-po", "lexicat-convert",
-              "lexicat-exchange", "lexicat-check"]
+PROGRAMS = subprocess.check_output([f"{ROOT}/tools/programs", "--names"], text=True).split()
 # What lexicat-file has beside the commands, and the commands that have to do with no site.
-OF_A_FILE, OF_NO_SITE = {"merge", "confirm", "undo"}, {"pick", "replay", "explain"}
+OF_A_FILE = {"merge", "confirm", "undo", "log", "conflicts", "doctor", "restore"}
+OF_NO_SITE = {"pick", "replay", "explain"}
 faults = []
 fault = faults.append
 
@@ -166,35 +166,41 @@ def check_command(lexicat, forms):
         for it in form.options:
             if not re.search(rf"^\.It Fl -{it.name}( |$)", manual, re.M):
                 fault(f"man: no --{it.name}")
-    for text in re.findall(r"^\| [0-9]* \| `([^`]*)`", read("docs/REFUSALS.md"), re.M):
+    for text in re.findall(r"^### \d+, .*\n\n`([^`]*)`", read("docs/REFUSALS.md"), re.M):
         if text not in manual:
             fault(f"man: no refusal '{text}'")
 
 
-def check_companion(companion):
-    """Checks that its completions and its manual have each option of its help, with a value where
-    it has one, and that of bash no other."""
-    text = command_help.help_of(f"{ROOT}/companions/{companion}")
+def check_program(program):
+    """Checks that its manual has each option of its help, with a value where it has one, and that the
+    shells know it: lexicat-file by completions of its own with all options, and that of bash no
+    other."""
+    text = command_help.help_of(f"{ROOT}/build/{program}")
     options = {it for it in command_help.options_in(text) if it.startswith("--")}
     with_value = set(re.findall(r"^ +(?:-\w, )?(--[a-z-]+) [A-Z]", text, re.M))
-    bash = re.findall(r"compgen -W '(--[^']*)'", read(f"completions/{companion}.bash"))
-    if set(re.findall("--[a-z-]+", " ".join(bash))) != options:
-        fault(f"bash: not the options of {companion}")
-    for option in options - {"--help"}:
-        sign, fish, mdoc = ("=", "-[xF] ", " Ar ") if option in with_value else ("", "", "$")
-        for what, path, pattern in [
-            ("zsh", f"completions/_{companion}", rf"{option}{sign}\["),
-            ("fish", f"completions/{companion}.fish", rf"{fish}-l {option[2:]} "),
-            ("man", f"man/{companion}.1", rf"^\.It Fl {option[1:]}{mdoc}"),
-        ]:
-            if not re.search(pattern, read(path), re.M):
-                fault(f"{what}: no {option} for {companion}")
+    places = [("man", f"man/{program}.1", lambda it, has: rf"^\.It Fl {it[1:]}{' Ar ' if has else '$'}")]
+    if program == "lexicat-file":
+        bash = re.findall(r"compgen -W '(--[^']*)'", read(f"completions/{program}.bash"))
+        if set(re.findall("--[a-z-]+", " ".join(bash))) != options:
+            fault(f"bash: not the options of {program}")
+        places += [
+            ("zsh", f"completions/_{program}", lambda it, has: rf"{it}{'=' if has else ''}\["),
+            ("fish", f"completions/{program}.fish", lambda it, has: rf"{'-[xF] ' * has}-l {it[2:]} "),
+        ]
+    else:
+        for it in ("lexicat-programs.bash", "_lexicat-programs"):
+            if not re.search(rf"\b{program}\b", read(f"completions/{it}")):
+                fault(f"{it}: no {program}")
+    for option in options - {"--help", "--version"}:
+        for what, path, pattern in places:
+            if not re.search(pattern(option, option in with_value), read(path), re.M):
+                fault(f"{what}: no {option} for {program}")
 
 
 def check_commands_of_a_file(forms):
     """Checks that each command that has to do with a site is one of lexicat-file."""
     wanted = sorted({*forms, *OF_A_FILE} - OF_NO_SITE)
-    text = command_help.help_of(f"{ROOT}/companions/lexicat-file")
+    text = command_help.help_of(f"{ROOT}/build/lexicat-file")
     bash = re.search("^    local commands='(.*)'", read("completions/lexicat-file.bash"), re.M)
     for what, names in [
         ("help of lexicat-file", command_help.commands_in(text)),
@@ -219,7 +225,7 @@ def compared(name, look, *words):
 
 def check_syntax(shell, pattern):
     """Has a shell look at its own files."""
-    for name in ["lexicat", *COMPANIONS]:
+    for name in ["lexicat", "lexicat-file", *["lexicat-programs"] * (shell != "fish")]:
         faults.extend(said_by(shell, "-n", f"completions/{pattern.format(name)}"))
 
 
@@ -243,12 +249,12 @@ def check_by_programs():
 
 def main():
     lexicat = os.path.abspath(os.environ.get("LEXICAT", command_help.LEXICAT))
-    tap.needs(lexicat, "bash")
+    tap.needs(lexicat, f"{ROOT}/build/lexicat-file", "bash")
     forms = command_help.forms_of(lexicat)
     compared("commands and options", check_command, lexicat, forms)
     compared("the arguments of each command", check_arguments, forms)
-    for companion in COMPANIONS:
-        compared(f"the options of {companion}", check_companion, companion)
+    for program in PROGRAMS:
+        compared(f"the options of {program}", check_program, program)
     compared("the commands of lexicat-file", check_commands_of_a_file, forms)
     check_by_programs()
     tap.end()

@@ -1,4 +1,4 @@
-"""Completes lines in a real shell: bash, zsh or fish. In place of lexicat and of its companions
+"""Completes lines in a real shell: bash, zsh or fish. In place of lexicat and of lexicat-file
 runs a script, which writes its arguments and its input into a file. A line is typed, then a tab and
 the end of the line, and the file shows what was completed.
 """
@@ -42,38 +42,10 @@ LINES = [
     ("lexicat-file zz_file.json delete --fo", "args:zz_file.json delete --force input:"),
     ("lexicat-file zz_file.json confirm --la", "args:zz_file.json confirm --lang=? input:"),
     ("lexicat-file zz_file.json take < zz", "args:zz_file.json take input:held"),
-    ("lexicat-edit zz", "args:zz_file.json input:"),
-    ("lexicat-edit --mis", "args:--missing=? input:"),
-    ("lexicat-edit --missing fr zz", "args:--missing fr zz_file.json input:"),
-    ("lexicat-edit zz_file.json zz", "args:zz_file.json zz input:"),
-    ("lexicat-po conf", "args:confirmed input:"),
-    ("lexicat-po in --lang de --so", "args:in --lang de --source=? input:"),
-    ("lexicat-po in --sent zz", "args:in --sent zz_file.json input:"),
-    ("lexicat-po in --lang de --source en zz", "args:in --lang de --source en zz_file.json input:"),
-    ("lexicat-po out --plu", "args:out --plural-forms=? input:"),
-    ("lexicat-po out --like zz", "args:out --like zz_file.json input:"),
-    ("lexicat-po out --lang de zz", "args:out --lang de zz_file.json input:"),
-    ("lexicat-po maps --dom", "args:maps --domain=? input:"),
-    ("lexicat-po maps --source en zz", "args:maps --source en zz_file.json input:"),
-    ("lexicat-po out --lang de < zz", "args:out --lang de input:held"),
-    ("lexicat-convert stringsd", "args:stringsdict input:"),
-    ("lexicat-convert csv ou", "args:csv out input:"),
-    ("lexicat-convert i18next in --fl", "args:i18next in --flat input:"),
-    ("lexicat-convert arb in zz", "args:arb in zz_file.json input:"),
-    ("lexicat-convert xliff out --so", "args:xliff out --source=? input:"),
-    ("lexicat-convert arb out --lang de < zz", "args:arb out --lang de input:held"),
-    ("lexicat-exchange --wa", "args:--wait=? input:"),
-    ("lexicat-exchange --key-file zz", "args:--key-file zz_file.json input:"),
-    ("lexicat-exchange http://localhost:8080/ zz", "args:http://localhost:8080/ zz_file.json input:"),
-    ("lexicat-check --so", "args:--source=? input:"),
-    ("lexicat-check --source en --only bl", "args:--source en --only blanks input:"),
-    ("lexicat-check --source en zz", "args:--source en zz_file.json input:"),
 ]
 
 # What completes, in an order in which each finds what it needs later.
-NAMES = [
-    "lexicat-check", "lexicat-convert", "lexicat-edit", "lexicat-exchange", "lexicat-file",
-    "lexicat-po", "lexicat"]
+NAMES = ["lexicat-file", "lexicat"]
 
 SETUP = {
     "bash": (

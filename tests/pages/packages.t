@@ -67,8 +67,6 @@ check 'the version of the sources' has_the_version crates/front_core/src/version
     's/^pub const VERSION: &str = "(.*)";$/\1/p'
 check 'the version of the package for Python' has_the_version \
     bindings/python/src/silkwaram/__init__.py 's/^__version__ = "(.*)"$/\1/p'
-check 'the version of the package for Node' has_the_version bindings/node/package.json \
-    's/^  "version": "(.*)",$/\1/p'
 check 'no reserved address' finds_none reserved_addresses
 check 'no link of the page of the wheel to what the wheel has not' finds_none links_of_the_wheel
 end

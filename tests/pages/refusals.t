@@ -1,13 +1,13 @@
 #!/usr/bin/env python3
 """Sees that each refusal has one number and one text wherever it is written down.
 
-Compared are: the table of docs/REFUSALS.md; the faults of the sources (crates/*/src/*fault*.rt, the
-text of each variant with the number that it answers); the text that
-crates/front_core/src/refusal.rt has for the library, which is that of the table, or the one that
-the page names under "The library"; what is wanted, the cause and what to do as that file has them,
-with which the cells of the table have to begin; and the items of DIAGNOSTICS in man/lexicat.1, each
-of which is a text, what is wanted and what to do. The numbers are 1 to 30, each once. It reads
-files, and needs Python alone.
+Compared are: the sections of docs/REFUSALS.md; the faults of the sources (crates/*/src/*fault*.rt,
+the text of each variant with the number that it answers); the text that
+crates/front_core/src/refusal.rt has for the library, which is that of the page, or the one that the
+page names under "The library"; what is wanted, the cause and what to do as that file has them, with
+which the lines of a section have to begin; and the items of DIAGNOSTICS in man/lexicat.1, each of
+which is a text, what is wanted and what to do. The numbers are 1 to 30, each once. It reads files,
+and needs Python alone.
 """
 import os
 import re
@@ -23,31 +23,31 @@ PAGE = "docs/REFUSALS.md"
 MANUAL = "man/lexicat.1"
 EXPLAINED = "crates/front_core/src/refusal.rt"
 OF_LANGUAGES = "crates/lang_core/src/fault.rt"
-COLUMNS = ("what is wanted", "cause", "what to do")
+PARTS = ("what is wanted", "cause", "what to do")
+SECTION = re.compile(r"^### (\d+), .+\n\n(.+)\n\n- \*\*Rule:\*\* (.+)\n- \*\*Cause:\*\* (.+)\n"
+                     r"- \*\*What to do:\*\* (.+)$", re.M)
 ALL = set(range(1, 31))
 ERROR = re.compile(r'#\[error\("([^"]*)"(?:, (.*))?\)\]')
 faults = []
 fault = faults.append
 
 
-def page_rows(page):
-    """The number and the cells of each row of the table."""
-    for line in page.split("\n"):
-        cells = line[2:-2].split(" | ")
-        if re.match(r"\| \d+ \| ", line) and len(cells) == 5:
-            yield int(cells[0]), cells[1:]
+def sections(page):
+    """The number of each section, its text, what is wanted, the cause and what to do."""
+    for number, *parts in SECTION.findall(page):
+        yield int(number), parts
 
 
 def page_texts(page):
-    """The texts of the table, the one for runs (a second text, which is appended) among them."""
+    """The texts of the page, the one for runs (a second text, which is appended) among them."""
     texts = {}
-    for number, cells in page_rows(page):
-        quoted = re.findall(r"`([^`]+)`", cells[0])
+    for number, parts in sections(page):
+        quoted = re.findall(r"`([^`]+)`", parts[0])
         if number in texts:
-            fault(f"{PAGE}: {number} has two rows")
+            fault(f"{PAGE}: {number} has two sections")
         texts[number] = [quoted[0]] + [quoted[0] + more for more in quoted[1:]]
     if list(texts) != sorted(ALL):
-        fault(f"{PAGE}: the numbers of the table are not 1 to {max(ALL)}, each once and in order")
+        fault(f"{PAGE}: the sections are not those of 1 to {max(ALL)}, each once and in order")
     return texts
 
 
@@ -86,7 +86,7 @@ def fault_texts(path):
 
 
 def check_sources(texts):
-    """Each fault of the sources has a text of the table, and each number a fault."""
+    """Each fault of the sources has a text of the page, and each number a fault."""
     seen = set()
     for crate in rattle.crates():
         for path in rattle.source_files(crate) if not crate.endswith("_tests") else []:
@@ -131,7 +131,7 @@ def explained_texts():
 
 
 def check_library(page, written, explained):
-    """The library's text is that of the table, or another that the page names."""
+    """The library's text is that of the section, or another that the page names."""
     section = page.split("\n## The library\n")[-1].split("\n## ")[0]
     named = {int(number): text for number, text in re.findall(r"of (\d+) `([^`]+)`", section)}
     for number, (text, *_) in explained.items():
@@ -139,20 +139,20 @@ def check_library(page, written, explained):
         if text != wanted:
             fault(f"{EXPLAINED}: {number} is '{text}', where {PAGE} says '{wanted}'")
         if number in named and named[number] in written.get(number, []):
-            fault(f"{PAGE}: the library's text of {number} is named, and is that of the table")
+            fault(f"{PAGE}: the library's text of {number} is named, and is that of the section")
 
 
-def plain(cell):
-    """A cell of the table without links and marks of code."""
-    return re.sub(r"\[([^]]*)\]\([^)]*\)", r"\1", cell).replace("`", "")
+def plain(part):
+    """A part of a section without links and marks of code."""
+    return re.sub(r"\[([^]]*)\]\([^)]*\)", r"\1", part).replace("`", "")
 
 
 def check_explained(page, texts):
-    """The cells of the table begin with the texts of the source."""
-    for number, (_, *cells) in page_rows(page):
-        for column, cell, text in zip(COLUMNS, cells, texts.get(number, ())[1:]):
-            if not re.match(re.escape(text) + r"($|;| \()", plain(cell)):
-                fault(f"{PAGE}: {column} of {number} does not begin with '{text}'")
+    """The parts of the sections begin with the texts of the source."""
+    for number, (_, *parts) in sections(page):
+        for name, part, text in zip(PARTS, parts, texts.get(number, ())[1:]):
+            if not re.match(re.escape(text) + r"($|;| \()", plain(part)):
+                fault(f"{PAGE}: {name} of {number} does not begin with '{text}'")
 
 
 def words_of(text):
@@ -162,7 +162,7 @@ def words_of(text):
 
 
 def check_manual(texts, explained):
-    """The manual's items are the table's rows, with what is wanted and what to do."""
+    """The manual's items are the page's sections, with what is wanted and what to do."""
     text = rattle.read(MANUAL).split(".Sh DIAGNOSTICS")[-1].split("\n.Sh ")[0].split("\n.El")[0]
     items = re.findall(r"^\.It (\d+)\n\.Sy (.*?) \.\n((?:(?!\.It ).*(?:\n|$))*)", text, re.M)
     listed = {int(number): (item, body) for number, item, body in items}
@@ -186,12 +186,12 @@ def compared(name, look, *words):
 
 
 page = rattle.read(PAGE)
-texts = compared("the table has each number once and in order", page_texts, page)
+texts = compared("the page has each number once and in order", page_texts, page)
 tap.note(f"{len(texts)} refusals")
-compared("the faults of the sources have the texts of the table", check_sources, texts)
+compared("the faults of the sources have the texts of the page", check_sources, texts)
 explained = compared("the library explains each number once and in order", explained_texts)
-compared("the cells of the table begin as the library explains", check_explained, page, explained)
-compared("the items of the manual are the rows of the table", check_manual, texts, explained)
-compared("the library has the texts of the table, or those named", check_library, page, texts,
+compared("the parts of a section begin as the library explains", check_explained, page, explained)
+compared("the items of the manual are the sections of the page", check_manual, texts, explained)
+compared("the library has the texts of the page, or those named", check_library, page, texts,
          explained)
 tap.end()

@@ -52,7 +52,7 @@ MACHINE_PATH = re.compile(r"(?<![\w.:)}])/(?:home|root|work|Users|private|mnt|op
 ONE_NAME = re.compile(r" *(?:ghost )?use [^,]*$| *#\[")
 WORD_START = re.compile("(?<=[a-z0-9])(?=[A-Z])")
 TYPOGRAPHY = re.compile("[\u2013\u2014\u2018\u2019\u201c\u201d]")
-TEXTS = ("*.md", "Makefile", "docs/**/*", "man/*", "tests/**/*", "tools/**/*", "companions/**/*",
+TEXTS = ("*.md", "Makefile", "docs/**/*", "man/*", "tests/**/*", "tools/**/*",
          "completions/*", "examples/**/*", "bindings/**/*", "packaging/**/*", "include/*",
          "bench/**/*")
 
