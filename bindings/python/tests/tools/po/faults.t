@@ -100,7 +100,8 @@ streams() {
     prints "lexicat-po $(sed -n 's/^__version__ = "\(.*\)"$/\1/p' "$PACKAGE/silkwaram/__init__.py")"
 }
 
-# It is interrupted when it reads: more than a pipe holds was written to it.
+# It is interrupted when it reads: more than a pipe holds was written to it. (Python does not notice
+# a signal between two reads that both succeed, so it gets more than one.)
 interrupted() {
     site
     mkfifo slow
@@ -109,7 +110,7 @@ interrupted() {
     set +m
     exec 5> slow
     head -c 300000 /dev/zero | tr '\0' ' ' >&5
-    kill -INT -- "-$!"
+    while kill -INT -- "-$!" 2> kills; do sleep 0.5; done
     ends 130 wait $!
     [ ! -s said ] || fault "an interrupt is reported: $(cat said)"
 }
