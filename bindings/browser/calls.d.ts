@@ -226,11 +226,14 @@ export interface Site extends Asked {
    */
   update(before: LanguageMaps | Text, after: LanguageMaps | Text, options?: EditOptions): void;
   /**
-   * Joins a delta for this site. Refused: the document, 29 by `notAfter`, 15 if it is for another site, 30 by
-   * `checkOwn`, 13 if one stamp has two labels.
+   * Joins a delta for this site. Refused: what is no delta; a time after `notAfter` (29); a delta for another site
+   * (15); with `checkOwn` an edit that this site made and lacks (30); one stamp with two labels (13).
    */
   take(delta: Text, options?: TakeOptions): void;
-  /** Joins all that another site holds. Refused: 29 by `notAfter`, 30 by `checkOwn`, 13 if one stamp has two labels. */
+  /**
+   * Joins all that another site holds. Refused: a time after `notAfter` (29); with `checkOwn` an edit that this site
+   * made and lacks (30); one stamp with two labels (13).
+   */
   merge(other: Site, options?: TakeOptions): void;
 
   /** The site as a document, as the command `lexicat` reads and writes it. */

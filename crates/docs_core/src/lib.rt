@@ -7,8 +7,8 @@
 //!   [`bundle_document`], [`missing_document`], [`outdated_document`], [`changes_document`],
 //!   [`sync_documents`], [`merge_documents`], [`summary_document`], [`delta_document`],
 //!   [`take_document`], [`ask_document`] and [`status_document`] work on whole documents, from
-//!   bytes to bytes. By [`Checks`] an exchange tests what comes in, and by [`Shows`] a summary
-//!   shows labels. [`two_documents`] and [`Lines`] cut an input into its documents.
+//!   bytes to bytes. [`Checks`] say what an exchange tests of what comes in, and [`Shows`] whether
+//!   a summary shows labels. [`two_documents`] and [`Lines`] cut an input into its documents.
 //! - [`read_message`] reads of a site what a question about one message needs.
 //! - [`filter_lines`], [`reply_line`], [`status_line`], [`changes_lines`], [`write_live_labels`],
 //!   [`write_missing`], [`write_outdated`] and [`write_bundle`] write the answers of a site in

@@ -8,7 +8,7 @@ use docs_core::{Checks, OwnEdits, Shows};
 use front_core::Field;
 use nego_core::{Malformed, Scheme, Widening};
 
-/// How a field is read under these flags, or none where one of them is unknown: 1 is the extended
+/// How a field is read under these flags, or none if one of them is unknown: 1 is the extended
 /// scheme, 2 skips malformed elements.
 pub(crate) fn field_of(flags: u32, text: &[u8]) -> Option<Field<'_>>
     ensures { option_map field_text result ≡ field_of flags text.now }
@@ -28,7 +28,7 @@ pub(crate) fn field_of(flags: u32, text: &[u8]) -> Option<Field<'_>>
     })
 }
 
-/// How the field of a lookup is read under these flags, or none where one of them is unknown: as
+/// How the field of a lookup is read under these flags, or none if one of them is unknown: as
 /// [`field_of`] says, and 4 widens the lookup.
 pub(crate) fn lookup_field_of(flags: u32, text: &[u8]) -> Option<Field<'_>>
     ensures { option_map field_text result ≡ lookup_field_of flags text.now }
@@ -55,7 +55,7 @@ pub(crate) fn default_of(text: &[u8]) -> Option<&[u8]>
     if text.is_empty() { None } else { Some(text) }
 }
 
-/// What an exchange tests under these flags, or none where one of them is unknown: 8 tests the
+/// What an exchange tests under these flags, or none if one of them is unknown: 8 tests the
 /// site's own edits, and a limit other than 0 the times.
 pub(crate) fn checks_of(flags: u32, not_after: u64) -> Option<Checks>
     ensures { result ≡ checks_of flags not_after }
@@ -67,7 +67,7 @@ pub(crate) fn checks_of(flags: u32, not_after: u64) -> Option<Checks>
     })
 }
 
-/// What a summary shows under these flags, or none where one of them is unknown: 16 shows labels.
+/// What a summary shows under these flags, or none if one of them is unknown: 16 shows labels.
 pub(crate) fn shows_of(flags: u32) -> Option<Shows>
     ensures { result ≡ shows_of flags }
 {
@@ -78,7 +78,7 @@ pub(crate) fn shows_of(flags: u32) -> Option<Shows>
     }
 }
 
-/// Whether an exchange tests the site's own edits, or none where a flag is unknown.
+/// Whether an exchange tests the site's own edits, or none if a flag is unknown.
 fn own_edits_of(flags: u32) -> Option<OwnEdits>
     ensures { result ≡ own_edits_of flags }
 {
