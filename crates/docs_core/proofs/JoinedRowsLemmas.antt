@@ -90,7 +90,7 @@ module _ {J : Type 0} where
       ∙ find_above es k (above_rest e es k above)
 
   -- the last entry is found by its key
-  find_last : (es : List (EntryKey × J)) (k : EntryKey) (v : J) → IsAboveAll k es
+  pub find_last : (es : List (EntryKey × J)) (k : EntryKey) (v : J) → IsAboveAll k es
       → find key_cmp k (es ++ (k, v) ∷ []) ≡ Some v
   find_last [] k v above = ap (λ b. cond b (Some v) None) (own_key k)
   find_last (e ∷ es) k v above =

@@ -33,7 +33,7 @@ use Rattle.map_docs.specs.Maps.{Labelled}
 use Rattle.docs_core.specs.ImportingLabels.{puts_of}
 use Rattle.docs_core.specs.UpdatingChanges.{Change, Makes}
 use Rattle.docs_core.specs.StampedRows.{AreStamped, HoldsStamped}
-use Rattle.docs_core.specs.SyncedRows.{IsSyncedTo}
+use Rattle.docs_core.specs.SyncedRows.{IsSyncedTo, untested}
 use Rattle.docs_core.specs.declared.call.stamped_rows.StampedRows.{StampedRows}
 use Rattle.cell_core.proofs.Basics.{first_part, second_part, tied_order as tied}
 use Rattle.list_core.proofs.Basics.{element_at as first_left}
@@ -160,8 +160,8 @@ module _ (now : ℕ) (name : List ℕ) where
       → IsAboveAll e.0 taken
       → IsNext old.latest old.now old.name stamp
       → ((seen : Entries) → IsAboveAll e.0 seen
-      → IsSyncedTo None old.site.now old.rows old.draft seen
-      → IsSyncedTo None new.site.now new.rows new.draft
+      → IsSyncedTo untested old.site.now old.rows old.draft seen
+      → IsSyncedTo untested new.site.now new.rows new.draft
       (seen ++ (e.0, record { stamp = stamp; label = e.1 }) ∷ []))
       → new.latest ≡ Some stamp → new.now ≡ old.now → new.name ≡ old.name
       → HoldsStamped now name last new (taken ++ e ∷ [])
@@ -209,7 +209,7 @@ module _ (now : ℕ) (name : List ℕ) where
 -- no change yet
 pub stamped_none : (now : ℕ) (name : List ℕ) (last : Option Stamp) (stamped : StampedRows)
     → stamped.now ≡ now → stamped.name ≡ name → stamped.latest ≡ last
-    → IsSyncedTo None stamped.site.now stamped.rows stamped.draft []
+    → IsSyncedTo untested stamped.site.now stamped.rows stamped.draft []
     → HoldsStamped now name last stamped []
 stamped_none now name last stamped time site latest synced = record {
   cells = [];

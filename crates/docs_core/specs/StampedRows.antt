@@ -5,7 +5,7 @@ use Rattle.cell_core.specs.declared.stamp.Stamp.{Stamp}
 use Rattle.cell_core.specs.Entry.{EntryKey}
 use Rattle.catalogue.specs.Entries.{Entries, IsAboveAll}
 use Rattle.docs_core.specs.UpdatingChanges.{Change}
-use Rattle.docs_core.specs.SyncedRows.{IsSyncedTo}
+use Rattle.docs_core.specs.SyncedRows.{IsSyncedTo, untested}
 use Rattle.docs_core.specs.declared.call.stamped_rows.StampedRows.{StampedRows}
 
 -- the cells are the changes, each with the next stamp of this site at this time, after the last one
@@ -27,4 +27,4 @@ pub record HoldsStamped (now : ℕ) (name : List ℕ) (last : Option Stamp) (sta
       → AreStamped now name stamped.latest changes more
       → AreStamped now name last (taken ++ changes) (cells ++ more)
   pub above : (key : EntryKey) → IsAboveAll key taken → IsAboveAll key cells
-  pub synced : IsSyncedTo None stamped.site.now stamped.rows stamped.draft cells
+  pub synced : IsSyncedTo untested stamped.site.now stamped.rows stamped.draft cells

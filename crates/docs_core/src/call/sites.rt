@@ -14,16 +14,17 @@ ghost use Rattle.docs_core.specs.Calls.{AreSynced, IsEdited, IsDeltaFor, IsSumma
 ghost use Rattle.docs_core.specs.Calls.{IsTaken, RefusesEditing, RefusesDeltaFor, RefusesSync};
 ghost use Rattle.docs_core.specs.Calls.{RefusesTaking};
 ghost use Rattle.site_docs.specs.Checks.{IsOwnMissing, IsOwnMissingOfBoth, LackNoOwn, LacksNoOwn};
-ghost use Rattle.site_docs.specs.Checks.{until};
+ghost use Rattle.docs_core.specs.SyncedRows.{AreTestsOf};
 
 use crate::call::edited_rows::EditedRows;
 use crate::call::joined_rows::JoinedRows;
 use crate::call::latest_stamp::latest_stamp;
-use crate::call::synced_rows::SyncedRows;
+use crate::call::synced_rows::{SyncedRows, Tests};
 use cata_core::{CataFault, Catalogue, Delta, Site};
 use cell_core::{Cell, Label, MessageId, SiteName, Stamp};
 use json_docs::{Doc, DocFault};
 use lang_core::Lang;
+use memchr::memrchr;
 use site_docs::{
     Checks, OwnEdits, RowsInTime, check_own, check_times, delta_until, show_document, site_at,
 };
@@ -120,10 +121,8 @@ pub fn sync_documents(
     ensures { MatchResult result (λ docs. AreSynced checks first.now second.now docs.0 docs.1)
         (OrMemory no_memory (RefusesSync checks first.now second.now)) }
 {
-    if let OwnEdits::Unchecked = checks.own_edits {
-        if let Some(synced) = written_synced(alloc, first, second, checks.not_after)? {
-            return Ok(synced);
-        }
+    if let Some(synced) = written_synced(alloc, first, second, checks)? {
+        return Ok(synced);
     }
     let room = first.len().saturating_add(second.len());
     let second = match site_at(alloc, 2, second) {
@@ -140,8 +139,7 @@ pub fn sync_documents(
     Ok(docs)
 }
 
-/// The same under a limit alone, where the second document is as it is written. Both are read at
-/// once.
+/// The same where the second document is as it is written. Both are read at once.
 ///
 /// `None` says nothing: the second document may be valid in another form, the whole may have to be
 /// refused, or memory ran out. Refused as document 1 is by its reader, or out of memory (26).
@@ -149,21 +147,67 @@ fn written_synced(
     alloc: Global,
     first: &[u8],
     second: &[u8],
-    not_after: Option<u64>,
+    checks: Checks,
 ) -> Result<Option<(Doc, Doc)>, DocFault>
     ensures { MatchResult result (λ synced. IfSome synced
-        (λ docs. AreSynced (until not_after) first.now second.now docs.0 docs.1))
+        (λ docs. AreSynced checks first.now second.now docs.0 docs.1))
         (OrMemory no_memory (IsOfDocument 1 (RefusesSite first.now))) }
 {
+    let Some(tests) = tests_of(first, second, checks) else {
+        return Ok(None);
+    };
     let room = first.len().saturating_add(second.len());
-    let synced = SyncedRows::new(alloc, second, not_after, room)?;
-    let start = RowsInTime::new(synced, not_after);
+    let synced = SyncedRows::new(alloc, second, tests, room)?;
+    let start = RowsInTime::new(synced, checks.not_after);
     let (name, rows) = show_document(alloc, 1, first, &start)?;
     // (Before a time of the first site, the reader of the second document refuses.)
     match rows.in_time(1) {
         Ok(rows) => Ok(rows.close_both(alloc, name)),
         Err(_) => Ok(None),
     }
+}
+
+/// What is tested of the rows of two sites under these checks. The names of the sites are those at
+/// the ends of their documents, as far as these are as they are written: that they are the names is
+/// seen when all rows were read. `None` where no name is there.
+fn tests_of(first: &[u8], second: &[u8], checks: Checks) -> Option<Tests>
+    ensures { IfSome result (AreTestsOf checks) }
+{
+    let not_after = checks.not_after;
+    match checks.own_edits {
+        OwnEdits::Unchecked => Some(Tests {
+            not_after,
+            first: None,
+            second: None,
+        }),
+        OwnEdits::Checked => {
+            let first = name_at_end(first)?;
+            let second = name_at_end(second)?;
+            Some(Tests {
+                not_after,
+                first: Some(first),
+                second: Some(second),
+            })
+        }
+    }
+}
+
+/// The name of the site of a document that is as it is written, whose last members are the site and
+/// the version: what is between the last quote but three and the last but two.
+fn name_at_end(document: &[u8]) -> Option<SiteName> {
+    let version = before_quote(before_quote(document)?)?;
+    let name_and_before = before_quote(version)?;
+    let quote = memrchr(b'"', name_and_before)?;
+    let name = name_and_before.get(quote.saturating_add(1)..)?;
+    match std::str::from_utf8(name) {
+        Ok(name) => SiteName::new(name).ok(),
+        Err(_) => None,
+    }
+}
+
+/// What comes before the last quote of a text.
+fn before_quote(text: &[u8]) -> Option<&[u8]> {
+    text.get(..memrchr(b'"', text)?)
 }
 
 /// Whether neither the site of this document, which reads as one, nor the other lacks an edit of

@@ -9,10 +9,10 @@ ghost use Rattle.site_docs.specs.WrittenRows.{HasRead, current_of};
 ghost use Rattle.docs_core.specs.ImportingLabels.{puts_of};
 ghost use Rattle.docs_core.specs.UpdatingChanges.{Change, Makes};
 ghost use Rattle.docs_core.specs.StampedRows.{HoldsStamped};
-ghost use Rattle.docs_core.specs.SyncedRows.{IsSyncedBefore, IsSyncedTo, order_to};
+ghost use Rattle.docs_core.specs.SyncedRows.{IsSyncedBefore, IsSyncedTo, order_to, untested};
 
 use crate::call::latest_stamp::LatestStamp;
-use crate::call::synced_rows::{advance, write_all, write_before};
+use crate::call::synced_rows::{UNTESTED, advance, write_all, write_before};
 use cell_core::{Cell, Label, MessageId, SiteName, Stamp};
 use json_docs::Doc;
 use lang_core::Lang;
@@ -111,7 +111,7 @@ impl<'d> StampedRows<'d> {
             mut draft,
             ..
         } = self;
-        write_all(alloc, None, &mut rows, &mut draft)?;
+        write_all(alloc, &UNTESTED, &mut rows, &mut draft)?;
         let name = rows.close()?;
         match draft.close(alloc, name) {
             Ok(doc) => Some(doc),
@@ -144,10 +144,11 @@ fn write_change(
     ensures read { IfSome result
         (λ _. (bytes : List ℕ) × (read : Entries) × HasRead bytes rows.new read) }
     ensures synced { IfSome result (λ _. (bytes : List ℕ) (seen : Entries)
-        → IsAboveAll (id.now, lang.now) seen → IsSyncedTo None bytes rows.old draft.old seen
-        → IsSyncedTo None bytes rows.new draft.new (seen ++ ((id.now, lang.now), cell.now) ∷ [])) }
+        → IsAboveAll (id.now, lang.now) seen → IsSyncedTo untested bytes rows.old draft.old seen
+        → IsSyncedTo untested bytes rows.new draft.new
+        (seen ++ ((id.now, lang.now), cell.now) ∷ [])) }
 {
-    let order = write_before(alloc, None, id, lang, rows, draft)?;
+    let order = write_before(alloc, &UNTESTED, id, lang, rows, draft)?;
     if order.is_eq() {
         return replace_row(alloc, id, lang, cell, rows, draft);
     }
@@ -172,8 +173,9 @@ fn replace_row(
     ensures synced { IfSome result (λ _. (bytes : List ℕ) (seen : Entries)
         → order_to (id.now, lang.now) (current_of rows.old) ≡ Equal
         → IsAboveAll (id.now, lang.now) seen
-        → IsSyncedBefore (id.now, lang.now) None bytes rows.old draft.old seen
-        → IsSyncedTo None bytes rows.new draft.new (seen ++ ((id.now, lang.now), cell.now) ∷ [])) }
+        → IsSyncedBefore (id.now, lang.now) untested bytes rows.old draft.old seen
+        → IsSyncedTo untested bytes rows.new draft.new
+        (seen ++ ((id.now, lang.now), cell.now) ∷ [])) }
 {
     let Some(row) = rows.current() else {
         return None;

@@ -1,7 +1,7 @@
 //! The rows of a site, joined with those of another document as both are read.
 ghost use Rattle.std.specs.Prelude.{◌≡◌, ◌≢◌, ◌<◌, ◌++◌, ◌∷◌, [], List, ℕ, IfOk, IfSome};
-ghost use Rattle.std.specs.Prelude.{IsTrue, length};
-ghost use Rattle.std.specs.declared.cmp.Ordering.TheVariants.{Equal, Less};
+ghost use Rattle.std.specs.Prelude.{IsTrue, MatchOption, false, length, ⊤};
+ghost use Rattle.std.specs.declared.cmp.Ordering.TheVariants.{Equal, Greater, Less};
 ghost use Rattle.cell_core.specs.Cell.{AgreeCells, joined_cells};
 ghost use Rattle.catalogue.specs.Entries.{Agree, Entries, IsAboveAll, joined};
 ghost use Rattle.cata_core.specs.Site.{SiteState};
@@ -10,7 +10,8 @@ ghost use Rattle.site_docs.specs.RowsDraft.{HoldsRows};
 ghost use Rattle.site_docs.specs.Sink.{IsLabelRef, IsRowOf, entry_of, texts_of};
 ghost use Rattle.site_docs.specs.WrittenRows.{HasRead, IsRowText, current_of, left_in};
 ghost use Rattle.site_docs.specs.WrittenRows.{entry_of as row_entry};
-ghost use Rattle.docs_core.specs.SyncedRows.{HoldsSynced, IsSyncedAll, IsSyncedBefore, IsSyncedTo};
+ghost use Rattle.docs_core.specs.SyncedRows.{AreNames, HoldsSynced, IsOfAnother, IsSyncedAll};
+ghost use Rattle.docs_core.specs.SyncedRows.{IsSyncedBefore, IsSyncedTo, LackNone, LackNoneAt};
 ghost use Rattle.docs_core.specs.SyncedRows.{order_to};
 ghost use Rattle.site_docs.specs.RowsInTime.{AreInTime};
 
@@ -21,17 +22,36 @@ use site_docs::{CellRef, CellSink, LabelRef, RowsDraft, WrittenRow, WrittenRows}
 use std::alloc::{AllocError, Global};
 use std::cmp::Ordering;
 
+/// What the rows of two sites are tested for as they are joined. Where a test fails the two are not
+/// joined so.
+#[derive(Clone, Copy)]
+pub(crate) struct Tests {
+    /// The greatest time that a row may have.
+    pub(crate) not_after: Option<u64>,
+    /// The name of the site that is seen, where it may lack no edit of its own.
+    pub(crate) first: Option<SiteName>,
+    /// That of the other document's site.
+    pub(crate) second: Option<SiteName>,
+}
+
+/// Nothing is tested.
+pub(crate) const UNTESTED: Tests = Tests {
+    not_after: None,
+    first: None,
+    second: None,
+};
+
 /// The rows of a site as far as they are seen, joined with those of another document, which are
 /// read as far as their keys are no greater.
 #[derive(Drop)]
 pub(crate) struct SyncedRows<'d> {
     other: &'d [u8],
-    not_after: Option<u64>,
+    tests: Tests,
     /// The room in bytes that a draft has which is begun.
     room: usize,
     draft: RowsDraft,
     /// The rows of the other document. None where it is not as it is written, does not agree with
-    /// the site, or has a time after the limit, and where memory ran out.
+    /// the site, or fails a test, and where memory ran out.
     rows: Option<WrittenRows<'d>>,
 }
 
@@ -42,16 +62,16 @@ impl<'d> SyncedRows<'d> {
     pub(crate) fn new(
         alloc: Global,
         other: &'d [u8],
-        not_after: Option<u64>,
+        tests: Tests,
         room: usize,
     ) -> Result<SyncedRows<'d>, AllocError>
         ensures other { IfOk result (λ rows. rows.other.now ≡ other.now) }
-        ensures limit { IfOk result (λ rows. rows.not_after ≡ not_after) }
+        ensures tests { IfOk result (λ rows. rows.tests ≡ tests) }
     {
         let draft = RowsDraft::new(alloc, 0)?;
         Ok(SyncedRows {
             other,
-            not_after,
+            tests,
             room,
             draft,
             rows: None,
@@ -68,20 +88,25 @@ impl<'d> SyncedRows<'d> {
         ensures { (cells : Entries) → HoldsSynced self.entry cells
             → IfSome result (λ docs. (second : SiteState)
             × ReadsAsSite self.entry.other.now second
-            × AreInTime self.entry.not_after second.cells × Agree cells second.cells
+            × AreInTime self.entry.tests.not_after second.cells
+            × AreNames self.entry.tests name second.name
+            × LackNone self.entry.tests cells second.cells × Agree cells second.cells
             × IsSiteText (record { name = name; cells = joined cells second.cells }) docs.0
             × IsSiteText (record { name = second.name; cells = joined cells second.cells })
             docs.1) }
     {
         let SyncedRows {
-            not_after,
+            tests,
             mut draft,
             rows,
             ..
         } = self;
         let mut rows = rows?;
-        write_all(alloc, not_after, &mut rows, &mut draft)?;
+        write_all(alloc, &tests, &mut rows, &mut draft)?;
         let other = rows.close()?;
+        if !is_name(tests.first, name) || !is_name(tests.second, other) {
+            return None;
+        }
         match draft.close_both(alloc, name, other) {
             Ok(docs) => Some(docs),
             Err(_) => None,
@@ -92,16 +117,16 @@ impl<'d> SyncedRows<'d> {
 /// Writes the row of each cell, and before it those of the other document with a lesser key.
 impl<'t, 'd> CellSink<'t> for SyncedRows<'d> {
     ghost Holds = { λ first synced seen. (synced.other.now ≡ first.other.now)
-        × (synced.not_after ≡ first.not_after) × HoldsSynced synced seen };
+        × (synced.tests ≡ first.tests) × HoldsSynced synced seen };
 
     fn begin(&self, alloc: Global) -> Result<SyncedRows<'d>, AllocError> {
         let draft = RowsDraft::new(alloc, self.room)?;
         Ok(SyncedRows {
             other: self.other,
-            not_after: self.not_after,
+            tests: self.tests,
             room: self.room,
             draft,
-            rows: rows_in_time(alloc, self.other, self.not_after),
+            rows: rows_in_time(alloc, self.other, self.tests.not_after),
         })
     }
 
@@ -109,7 +134,7 @@ impl<'t, 'd> CellSink<'t> for SyncedRows<'d> {
         let Some(rows) = &mut self.rows else {
             return Ok(());
         };
-        if write_joined(alloc, self.not_after, &cell, rows, &mut self.draft).is_none() {
+        if write_joined(alloc, &self.tests, &cell, rows, &mut self.draft).is_none() {
             self.rows = None;
         }
         Ok(())
@@ -137,7 +162,7 @@ fn rows_in_time<'d>(
 /// key.
 fn write_joined(
     alloc: Global,
-    not_after: Option<u64>,
+    tests: &Tests,
     cell: &CellRef<'_, '_>,
     rows: &mut WrittenRows<'_>,
     draft: &mut RowsDraft,
@@ -147,12 +172,15 @@ fn write_joined(
     requires read { (bytes : List ℕ) × (read : Entries) × HasRead bytes rows.old read }
     ensures { IfSome result (λ _. (bytes : List ℕ) (seen : Entries)
         → IsAboveAll (entry_of cell.now).0 seen
-        → IsSyncedTo not_after bytes rows.old draft.old seen
-        → IsSyncedTo not_after bytes rows.new draft.new (seen ++ entry_of cell.now ∷ [])) }
+        → IsSyncedTo tests.now bytes rows.old draft.old seen
+        → IsSyncedTo tests.now bytes rows.new draft.new (seen ++ entry_of cell.now ∷ [])) }
 {
-    let order = write_before(alloc, not_after, cell.id, cell.lang, rows, draft)?;
+    let order = write_before(alloc, tests, cell.id, cell.lang, rows, draft)?;
     if order.is_eq() {
-        return write_both(alloc, not_after, cell, rows, draft);
+        return write_both(alloc, tests, cell, rows, draft);
+    }
+    if is_of(tests.second, cell.stamp.site) {
+        return None;
     }
     match draft.add(alloc, cell) {
         Ok(()) => Some(()),
@@ -164,7 +192,7 @@ fn write_joined(
 /// to it; greater where there is none.
 pub(crate) fn write_before(
     alloc: Global,
-    not_after: Option<u64>,
+    tests: &Tests,
     id: &MessageId,
     lang: &Lang,
     rows: &mut WrittenRows<'_>,
@@ -176,12 +204,12 @@ pub(crate) fn write_before(
     ensures read { IfSome result
         (λ _. (bytes : List ℕ) × (read : Entries) × HasRead bytes rows.new read) }
     ensures synced { IfSome result (λ _. (bytes : List ℕ) (seen : Entries)
-        → IsAboveAll (id.now, lang.now) seen → IsSyncedTo not_after bytes rows.old draft.old seen
-        → IsSyncedBefore (id.now, lang.now) not_after bytes rows.new draft.new seen) }
+        → IsAboveAll (id.now, lang.now) seen → IsSyncedTo tests.now bytes rows.old draft.old seen
+        → IsSyncedBefore (id.now, lang.now) tests.now bytes rows.new draft.new seen) }
 {
     let mut order = order_of(rows, id, lang);
     while order.is_lt() {
-        write_row(alloc, not_after, rows, draft)?;
+        write_row(alloc, tests, rows, draft)?;
         order = order_of(rows, id, lang);
     }
     Some(order)
@@ -190,18 +218,18 @@ pub(crate) fn write_before(
 /// Writes all rows that are left.
 pub(crate) fn write_all(
     alloc: Global,
-    not_after: Option<u64>,
+    tests: &Tests,
     rows: &mut WrittenRows<'_>,
     draft: &mut RowsDraft,
 ) -> Option<()>
     requires { (bytes : List ℕ) × (read : Entries) × HasRead bytes rows.old read }
     ensures { IfSome result (λ _. (current_of rows.new ≡ [])
         × ((bytes : List ℕ) (seen : Entries)
-        → IsSyncedAll not_after bytes rows.old draft.old seen
-        → IsSyncedAll not_after bytes rows.new draft.new seen)) }
+        → IsSyncedAll tests.now bytes rows.old draft.old seen
+        → IsSyncedAll tests.now bytes rows.new draft.new seen)) }
 {
     while rows.current().is_some() {
-        write_row(alloc, not_after, rows, draft)?;
+        write_row(alloc, tests, rows, draft)?;
     }
     Some(())
 }
@@ -209,7 +237,7 @@ pub(crate) fn write_all(
 /// Writes the row that was read last, and reads the next one.
 fn write_row(
     alloc: Global,
-    not_after: Option<u64>,
+    tests: &Tests,
     rows: &mut WrittenRows<'_>,
     draft: &mut RowsDraft,
 ) -> Option<()>
@@ -219,25 +247,23 @@ fn write_row(
     ensures fewer { IfSome result (λ _. left_in rows.new < left_in rows.old) }
     ensures before { IfSome result (λ _. (id lang : List ℕ) (bytes : List ℕ) (seen : Entries)
         → order_to (id, lang) (current_of rows.old) ≡ Less
-        → IsSyncedBefore (id, lang) not_after bytes rows.old draft.old seen
-        → IsSyncedBefore (id, lang) not_after bytes rows.new draft.new seen) }
+        → IsSyncedBefore (id, lang) tests.now bytes rows.old draft.old seen
+        → IsSyncedBefore (id, lang) tests.now bytes rows.new draft.new seen) }
     ensures all { IfSome result (λ _. (bytes : List ℕ) (seen : Entries)
-        → IsSyncedAll not_after bytes rows.old draft.old seen
-        → IsSyncedAll not_after bytes rows.new draft.new seen) }
+        → IsSyncedAll tests.now bytes rows.old draft.old seen
+        → IsSyncedAll tests.now bytes rows.new draft.new seen) }
 {
     let Some(row) = rows.current() else {
         return None;
     };
-    let Ok(()) = draft.add_row(row.text) else {
-        return None;
-    };
-    advance(alloc, not_after, rows)
+    write_theirs(tests, &row, draft)?;
+    advance(alloc, tests.not_after, rows)
 }
 
 /// Writes the later of the cells of a key, where they agree, and reads the next row.
 fn write_both(
     alloc: Global,
-    not_after: Option<u64>,
+    tests: &Tests,
     cell: &CellRef<'_, '_>,
     rows: &mut WrittenRows<'_>,
     draft: &mut RowsDraft,
@@ -248,19 +274,21 @@ fn write_both(
     ensures { IfSome result (λ _. (bytes : List ℕ) (seen : Entries)
         → order_to (entry_of cell.now).0 (current_of rows.old) ≡ Equal
         → IsAboveAll (entry_of cell.now).0 seen
-        → IsSyncedBefore (entry_of cell.now).0 not_after bytes rows.old draft.old seen
-        → IsSyncedTo not_after bytes rows.new draft.new (seen ++ entry_of cell.now ∷ [])) }
+        → IsSyncedBefore (entry_of cell.now).0 tests.now bytes rows.old draft.old seen
+        → IsSyncedTo tests.now bytes rows.new draft.new (seen ++ entry_of cell.now ∷ [])) }
 {
     let Some(row) = rows.current() else {
         return None;
     };
-    write_later(alloc, cell, &row, draft)?;
-    advance(alloc, not_after, rows)
+    write_later(alloc, tests, cell, &row, draft)?;
+    advance(alloc, tests.not_after, rows)
 }
 
-/// Writes the later of the cells of a key, where they are known to agree.
+/// Writes the later of the cells of a key, where they are known to agree, and the site of the
+/// earlier one did not make it.
 fn write_later(
     alloc: Global,
+    tests: &Tests,
     cell: &CellRef<'_, '_>,
     row: &WrittenRow<'_, '_>,
     draft: &mut RowsDraft,
@@ -269,6 +297,7 @@ fn write_later(
     requires row { IsRowOf cell.now }
     requires text { IsRowText row.now }
     ensures { IfSome result (λ _. AgreeCells (entry_of cell.now).1 (row_entry row.now).1
+        × LackNoneAt tests.now (entry_of cell.now).1 (row_entry row.now).1
         × ((cells : Entries) → (row_entry row.now).0 ≡ (entry_of cell.now).0
         → HoldsRows draft.old cells → HoldsRows draft.new (cells
         ++ ((entry_of cell.now).0, joined_cells (entry_of cell.now).1 (row_entry row.now).1)
@@ -276,18 +305,66 @@ fn write_later(
 {
     let order = cell.stamp.cmp(&row.stamp);
     if order.is_lt() {
-        let Ok(()) = draft.add_row(row.text) else {
-            return None;
-        };
-        return Some(());
+        return write_theirs(tests, row, draft);
     }
     if !agrees(order, &cell.label, row.label) {
+        return None;
+    }
+    if is_lacked(order, tests.second, cell.stamp.site) {
         return None;
     }
     let Ok(()) = draft.add(alloc, cell) else {
         return None;
     };
     Some(())
+}
+
+/// Writes a row of the other document, of whose key the site that is seen has nothing or an earlier
+/// cell, where that site did not make it.
+fn write_theirs(tests: &Tests, row: &WrittenRow<'_, '_>, draft: &mut RowsDraft) -> Option<()>
+    requires { IsRowText row.now }
+    ensures { IfSome result (λ _. IsOfAnother tests.now.first (row_entry row.now).1.stamp.site
+        × ((cells : Entries) → HoldsRows draft.old cells
+        → HoldsRows draft.new (cells ++ row_entry row.now ∷ []))) }
+{
+    if is_of(tests.first, row.stamp.site) {
+        return None;
+    }
+    match draft.add_row(row.text) {
+        Ok(()) => Some(()),
+        Err(_) => None,
+    }
+}
+
+/// Whether this site is the one that is tested for its own edits.
+fn is_of(name: Option<SiteName>, site: SiteName) -> bool
+    ensures { result ≡ false → IsOfAnother name site }
+{
+    match name {
+        Some(name) => site == name,
+        None => false,
+    }
+}
+
+/// Whether the later cell of a key, whose stamps are ordered so, may be an edit that this site made
+/// and lacks.
+fn is_lacked(order: Ordering, name: Option<SiteName>, site: SiteName) -> bool
+    ensures { result ≡ false → order ≡ Greater → IsOfAnother name site }
+{
+    match order {
+        Ordering::Greater => is_of(name, site),
+        _ => false,
+    }
+}
+
+/// Whether the site that is tested for its own edits, if one is, has this name.
+fn is_name(tested: Option<SiteName>, name: SiteName) -> bool
+    ensures { IsTrue result → MatchOption tested ⊤ (λ tested. tested ≡ name) }
+{
+    match tested {
+        Some(tested) => tested == name,
+        None => true,
+    }
 }
 
 /// Whether two cells with these labels are known to agree, whose stamps are ordered so.

@@ -7,10 +7,7 @@ use Rattle.cata_core.specs.Site.{SiteState}
 use Rattle.row_docs.specs.Reading.{IsOfDocument}
 use Rattle.site_docs.specs.Reading.{IsSiteText, RefusesSite}
 use Rattle.map_docs.proofs.MapsLabelsLemmas.{else_by}
-use Rattle.docs_core.specs.Calls.{AreSynced}
-use Rattle.site_docs.specs.Checks.{until}
 use Rattle.docs_core.specs.JoinedRows.{HoldsJoined}
-use Rattle.site_docs.specs.declared.checks.Checks.{Checks}
 use Rattle.site_docs.specs.RowsInTime.{AreInTime, IsTimeAhead}
 use Rattle.docs_core.specs.declared.call.joined_rows.JoinedRows.{JoinedRows}
 use Rattle.docs_core.proofs.CallsLemmas.{of_call, refused_after}
@@ -34,15 +31,9 @@ returns-in_err-synced c =
     c.from_residual.ensures.1 in
     rw (p.1, p.2) (else_by c.in_err-synced.ensures (λ why. inl why))
 
--- both were read at once, and own edits are not looked for
+-- both were read at once
 pub returns-in-Some : goal.returns-in-Some
-returns-in-Some c =
-    let a = c.args.first.now in
-    let b = c.args.second.now in
-    let same : until c.args.checks.not_after ≡ c.args.checks =
-    λ i. record { not_after = c.args.checks.not_after; own_edits = sym c.in-Unchecked.is i } in
-    subst (λ (checks : Checks). AreSynced checks a b c.in-Some.synced.0 c.in-Some.synced.1) same
-    (rw c.in-Some.is at c.in_ok-synced.ensures)
+returns-in-Some c = rw c.in-Some.is at c.in_ok-synced.ensures
 
 pub returns-in_err-name : goal.returns-in_err-name
 returns-in_err-name c =

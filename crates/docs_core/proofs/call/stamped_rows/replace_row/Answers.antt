@@ -1,11 +1,11 @@
-use Rattle.std.proofs.Common.{◌∙◌, ◌++◌, [], ◌∷◌, None, ap, subst, sym}
+use Rattle.std.proofs.Common.{◌∙◌, ◌++◌, [], ◌∷◌, ap, subst, sym}
 use Rattle.std.proofs.lemmas.Option.{IfSome_then}
 use Rattle.cell_core.specs.Entry.{EntryKey, key_cmp_exact}
 use Rattle.site_docs.specs.RowsDraft.{HoldsRows}
 use Rattle.cell_core.specs.Stamp.{stamp_cmp}
 use Rattle.cell_core.specs.declared.cell.Cell.{Cell}
 use Rattle.site_docs.specs.WrittenRows.{current_of, entry_of}
-use Rattle.docs_core.specs.SyncedRows.{order_to}
+use Rattle.docs_core.specs.SyncedRows.{order_to, untested}
 use Rattle.lang_core.proofs.Basics.{less_of as lt_less}
 use Rattle.docs_core.proofs.StampedRowsLemmas.{later_agrees, later_joined}
 use Rattle.docs_core.proofs.SyncedRowsLemmas.{both_written, some_both}
@@ -33,8 +33,8 @@ returns-clause-synced c =
     let is = shown.0 ∙ ap (λ (k : EntryKey). (k, row.1) ∷ []) same in
     let less = sym (c.cmp.ensures ∙ ap (stamp_cmp row.1.stamp) c.stamp.ensures)
     ∙ lt_less c.cmp.result (sym c.if-not-is_lt.ensures) in
-    both_written key cell row.1 None bytes c.args.rows.now c.advance.new.rows
+    both_written key cell row.1 untested bytes c.args.rows.now c.advance.new.rows
     c.args.draft.now c.add_cell.new.self seen is above so_far (reads bytes) in_time
-    (later_agrees cell row.1 less)
+    (later_agrees cell row.1 less) (tt, tt)
     (λ cells holds. subst (λ (d : Cell). HoldsRows c.add_cell.new.self (cells ++ (key, d) ∷ []))
     (sym (later_joined cell row.1 less)) (c.in-Ok.ensures cells holds)))

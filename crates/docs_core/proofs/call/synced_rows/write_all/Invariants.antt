@@ -7,8 +7,8 @@ use Rattle.docs_core.proofs.call.synced_rows.write_all.Given as goal
 -- the rows that are left as far as they are written
 abbrev pub invariant-loop-alloc : goal.invariant-loop-alloc
 invariant-loop-alloc l = ((bytes : List ℕ) × (read : Entries) × HasRead bytes l.rows read)
-    × ((bytes : List ℕ) (seen : Entries) → IsSyncedAll l.not_after bytes l.fn.rows l.fn.draft seen
-    → IsSyncedAll l.not_after bytes l.rows l.draft seen)
+    × ((bytes : List ℕ) (seen : Entries) → IsSyncedAll l.tests bytes l.fn.rows l.fn.draft seen
+    → IsSyncedAll l.tests bytes l.rows l.draft seen)
 
 abbrev pub decreases-loop-alloc : goal.decreases-loop-alloc
 decreases-loop-alloc l = left_in l.rows

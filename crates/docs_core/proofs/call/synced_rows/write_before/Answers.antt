@@ -8,6 +8,6 @@ loop-order-init c =
     let key : EntryKey = (c.args.id.now, c.args.lang.now) in (
       c.order_of-order.ensures,
       c.requires,
-      λ bytes seen above so_far. synced_before key c.args.not_after bytes c.args.rows.now
+      λ bytes seen above so_far. synced_before key c.args.tests.now bytes c.args.rows.now
           c.args.draft.now seen above so_far,
     )

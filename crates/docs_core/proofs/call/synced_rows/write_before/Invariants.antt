@@ -9,8 +9,8 @@ abbrev pub invariant-loop-order : goal.invariant-loop-order
 invariant-loop-order l = (l.order ≡ order_to (l.id, l.lang) (current_of l.rows))
     × ((bytes : List ℕ) × (read : Entries) × HasRead bytes l.rows read)
     × ((bytes : List ℕ) (seen : Entries) → IsAboveAll (l.id, l.lang) seen
-    → IsSyncedTo l.not_after bytes l.fn.rows l.fn.draft seen
-    → IsSyncedBefore (l.id, l.lang) l.not_after bytes l.rows l.draft seen)
+    → IsSyncedTo l.tests bytes l.fn.rows l.fn.draft seen
+    → IsSyncedBefore (l.id, l.lang) l.tests bytes l.rows l.draft seen)
 
 abbrev pub decreases-loop-order : goal.decreases-loop-order
 decreases-loop-order l = left_in l.rows

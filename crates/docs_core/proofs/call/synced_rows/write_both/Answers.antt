@@ -17,6 +17,6 @@ returns c =
     (λ _ reads in_time. λ bytes seen equal above so_far.
     let same = key_cmp_exact row.0 e.0 (ap (order_to e.0) (sym shown.0) ∙ equal) in
     let is = shown.0 ∙ ap (λ (k : EntryKey). (k, row.1) ∷ []) same in
-    both_written e.0 e.1 row.1 c.args.not_after bytes c.args.rows.now c.advance.new.rows
+    both_written e.0 e.1 row.1 c.args.tests.now bytes c.args.rows.now c.advance.new.rows
     c.args.draft.now c.write_later.new.draft seen is above so_far (reads bytes) in_time wrote.0
-    (λ cells holds. wrote.1 cells same holds))
+    wrote.1 (λ cells holds. wrote.2 cells same holds))

@@ -1,4 +1,4 @@
-use Rattle.std.proofs.Common.{◌∙◌, sym}
+use Rattle.std.proofs.Common.{◌∙◌, refl, sym}
 use Rattle.std.proofs.lemmas.Option.{IfSome_then}
 use Rattle.site_docs.specs.Sink.{entry_of}
 use Rattle.cell_core.proofs.Basics.{tied_order as tied}
@@ -21,6 +21,6 @@ returns-in-Ok c = λ bytes seen above so_far.
     let e = entry_of c.args.cell.now in
     let before = c.in_ok-order.ensures in
     let greater = greater_left c.in_ok-order.order before.order.1 (sym c.if-is_eq.ensures) in
-    own_written e.0 e.1 c.args.not_after bytes c.write_before.new.rows c.write_before.new.draft
-    c.add.new.self seen (sym before.order.0 ∙ greater) above
+    own_written e.0 e.1 c.args.tests.now bytes c.write_before.new.rows c.write_before.new.draft
+    c.add.new.self seen (sym before.order.0 ∙ greater) above (c.if-is_of.ensures refl)
     (before.synced bytes seen above so_far) c.in-Ok.ensures

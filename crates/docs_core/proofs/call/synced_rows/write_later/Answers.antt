@@ -1,4 +1,5 @@
 use Rattle.std.proofs.Common.{◌∙◌, ◌++◌, [], ◌∷◌, ap, refl, subst, sym}
+use Rattle.std.proofs.lemmas.Option.{IfSome_then}
 use Rattle.std.specs.Cmp.{tied_itself}
 use Rattle.std.specs.declared.cmp.Ordering.TheVariants.{Less}
 use Rattle.cell_core.specs.Cell.{stamp_cmp_total}
@@ -10,7 +11,7 @@ use Rattle.site_docs.specs.Sink.{entry_of}
 use Rattle.site_docs.specs.WrittenRows.{entry_of as row_entry}
 use Rattle.lang_core.proofs.Basics.{less_of as lt_less}
 use Rattle.docs_core.proofs.JoinedRowsLemmas.{apart_agrees, joined_first, joined_later}
-use Rattle.docs_core.proofs.SyncedRowsLemmas.{not_less}
+use Rattle.docs_core.proofs.SyncedRowsLemmas.{kept_lacks, later_lacks, not_less}
 use Rattle.docs_core.proofs.call.synced_rows.write_later.Goals as goal
 
 -- the other cell is the later one
@@ -18,15 +19,17 @@ pub returns-then-is_lt : goal.returns-then-is_lt
 returns-then-is_lt c =
     let e = entry_of c.args.cell.now in
     let d = row_entry c.args.row.now in
-    let text = c.requires.text in
-    let is = sym c.cmp-order.ensures ∙ lt_less c.cmp-order.result (sym c.if-is_lt.ensures) in (
+    let is = sym c.cmp-order.ensures ∙ lt_less c.cmp-order.result (sym c.if-is_lt.ensures) in
+    IfSome_then c.write_theirs.result c.write_theirs.ensures
+    (λ _ wrote. (
       apart_agrees e.1 d.1 Less is (λ h. cc),
+      later_lacks c.args.tests.now e.1 d.1 is wrote.0,
       λ cells same holds.
-          subst (λ (cell : Cell). HoldsRows c.add_row.new.self (cells ++ (e.0, cell) ∷ []))
+          subst (λ (cell : Cell). HoldsRows c.write_theirs.new.draft (cells ++ (e.0, cell) ∷ []))
           (sym (joined_later e.1 d.1 is))
-          (subst (λ (k : EntryKey). HoldsRows c.add_row.new.self (cells ++ (k, d.1) ∷ [])) same
-          (c.in-Ok.ensures cells d holds text.kept text.text)),
-    )
+          (subst (λ (k : EntryKey). HoldsRows c.write_theirs.new.draft (cells ++ (k, d.1) ∷ []))
+          same (wrote.1 cells holds)),
+    ))
 
 -- the cell that was seen is no earlier one, and agrees
 pub returns : goal.returns
@@ -37,8 +40,10 @@ returns c =
       λ same. c.if-not-agrees.ensures refl
           (c.cmp-order.ensures ∙ ap (stamp_cmp e.1.stamp) (sym same)
           ∙ tied_itself stamp_cmp_total e.1.stamp),
+      kept_lacks c.args.tests.now e.1 d.1 c.cmp-order.result (sym c.cmp-order.ensures) later
+          (c.if-is_lacked.ensures refl),
       λ cells same holds.
           subst (λ (cell : Cell). HoldsRows c.add.new.self (cells ++ (e.0, cell) ∷ []))
           (sym (joined_first e.1 d.1 c.cmp-order.result (sym c.cmp-order.ensures) later))
-          (c.in-Ok-add.ensures cells holds),
+          (c.in-Ok.ensures cells holds),
     )

@@ -24,12 +24,13 @@ pub returns-clause-before : goal.returns-clause-before
 returns-clause-before c =
     let d = entry_of c.in-Some.row in
     let shown = c.in-Some.ensures in
+    let theirs = c.in_ok-write_theirs.ensures in
     some_both c.advance.result c.advance.ensures.read c.advance.ensures.in_time
     (λ _ reads in_time. λ id lang bytes seen less so_far.
-    row_written {Below = IsAboveAll (id, lang)} {After = IsAboveAll (id, lang)} d c.args.not_after
-    bytes c.args.rows.now c.advance.new.rows c.args.draft.now c.add_row.new.self seen shown.0 so_far
-    (reads bytes) in_time
-    (λ rows holds. c.in-Ok.ensures rows d holds shown.1.kept shown.1.text)
+    row_written {Below = IsAboveAll (id, lang)} {After = IsAboveAll (id, lang)} d c.args.tests.now
+    bytes c.args.rows.now c.advance.new.rows c.args.draft.now c.write_theirs.new.draft seen shown.0
+    theirs.0 so_far (reads bytes) in_time
+    theirs.1
     (λ taken below. kept_more (λ (x : Entry). key_cmp x.0 (id, lang) ≡ Less) taken d below
     (ap (order_to (id, lang)) (sym shown.0) ∙ less)))
 
@@ -38,8 +39,10 @@ pub returns-clause-all : goal.returns-clause-all
 returns-clause-all c =
     let d = entry_of c.in-Some.row in
     let shown = c.in-Some.ensures in
+    let theirs = c.in_ok-write_theirs.ensures in
     some_both c.advance.result c.advance.ensures.read c.advance.ensures.in_time
     (λ _ reads in_time. λ bytes seen so_far.
-    row_written {Below = λ taken. ⊤} {After = λ taken. ⊤} d c.args.not_after bytes c.args.rows.now
-    c.advance.new.rows c.args.draft.now c.add_row.new.self seen shown.0 so_far (reads bytes) in_time
-    (λ rows holds. c.in-Ok.ensures rows d holds shown.1.kept shown.1.text) (λ taken below. tt))
+    row_written {Below = λ taken. ⊤} {After = λ taken. ⊤} d c.args.tests.now bytes c.args.rows.now
+    c.advance.new.rows c.args.draft.now c.write_theirs.new.draft seen shown.0 theirs.0 so_far
+    (reads bytes) in_time
+    theirs.1 (λ taken below. tt))

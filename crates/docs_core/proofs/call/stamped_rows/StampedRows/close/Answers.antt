@@ -1,4 +1,4 @@
-use Rattle.std.proofs.Common.{◌≡◌, ap, List, None, subst, sym, ℕ}
+use Rattle.std.proofs.Common.{◌≡◌, ap, List, subst, sym, ℕ}
 use Rattle.catalogue.specs.Entries.{Entries, joined}
 use Rattle.catalogue.specs.CatalogueLatest.{latest_of}
 use Rattle.cata_core.specs.Site.{SiteState}
@@ -6,6 +6,7 @@ use Rattle.site_docs.proofs.ReadingOneDocument.{one_site}
 use Rattle.site_docs.specs.Reading.{IsSiteText}
 use Rattle.docs_core.specs.UpdatingChanges.{Makes}
 use Rattle.docs_core.specs.StampedRows.{AreStamped}
+use Rattle.docs_core.specs.SyncedRows.{untested}
 use Rattle.docs_core.proofs.StampedRowsLemmas.{stamped_all, stamped_made}
 use Rattle.docs_core.proofs.SyncedRowsLemmas.{synced_all, synced_whole}
 use Rattle.docs_core.proofs.call.stamped_rows.StampedRows.close.Goals as goal
@@ -20,8 +21,8 @@ returns-in-Ok c = λ now name own changes reads holds.
     let rows = c.write_all.new.rows in
     let draft = c.write_all.new.draft in
     let seen = holds.cells in
-    let whole = synced_whole None bytes rows draft seen
-    (all.1 bytes seen (synced_all None bytes self.rows self.draft seen holds.synced)) all.0 in
+    let whole = synced_whole untested bytes rows draft seen
+    (all.1 bytes seen (synced_all untested bytes self.rows self.draft seen holds.synced)) all.0 in
     let owner = c.in_ok-name.name in
     let same = one_site bytes (record { name = owner; cells = whole.read })
     (record { name = name; cells = own })

@@ -1,3 +1,4 @@
+use Rattle.std.proofs.Common.{refl}
 use Rattle.docs_core.proofs.SyncedRowsLemmas.{synced_all, synced_whole}
 use Rattle.catalogue.specs.Entries.{joined}
 use Rattle.docs_core.proofs.call.synced_rows.SyncedRows.close_both.Goals as goal
@@ -17,13 +18,15 @@ returns-in-Ok c = λ cells holds.
     let all = c.in_ok-write_all.ensures in
     let rows = c.write_all.new.rows in
     let draft = c.write_all.new.draft in
-    let whole = synced_whole self.not_after bytes rows draft cells
-    (all.1 bytes cells (synced_all self.not_after bytes c.in_ok-rows.rows self.draft cells so_far))
+    let whole = synced_whole self.tests bytes rows draft cells
+    (all.1 bytes cells (synced_all self.tests bytes c.in_ok-rows.rows self.draft cells so_far))
     all.0 in
     let docs = c.in-Ok.ensures (joined cells whole.read) whole.holds whole.map in (
       record { name = c.in_ok-other.other; cells = whole.read },
       c.in_ok-other.ensures bytes whole.read whole.has_read,
       whole.in_time,
+      (c.if-not-is_name.ensures refl, c.if-not-is_name-2.ensures refl),
+      whole.lack,
       whole.agree,
       docs.0,
       docs.1,

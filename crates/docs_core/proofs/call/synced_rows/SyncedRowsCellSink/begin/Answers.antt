@@ -10,6 +10,6 @@ returns c =
       refl,
       refl,
       IfSome_then c.rows_in_time.result c.rows_in_time.ensures
-          (λ rows read. synced_none self.not_after self.other.now rows c.in_ok-draft.draft read.0
+          (λ rows read. synced_none self.tests self.other.now rows c.in_ok-draft.draft read.0
           read.1 c.in_ok-draft.ensures),
     )
