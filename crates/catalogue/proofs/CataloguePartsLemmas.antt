@@ -25,40 +25,44 @@ use Rattle.catalogue.proofs.CatalogueBestLemmas.{same_key}
 use Rattle.catalogue.proofs.EntriesFilteredLemmas.{filter-IsMap}
 use Rattle.catalogue.proofs.CatalogueNestedLemmas.{text_exact}
 
--- what the part has at a key: what the whole has, where the message is of the part
-pub find-part : {J : Type 0} (messages : List ℕ → Bool) (q : EntryKey) (es : List (EntryKey × J))
-    → find key_cmp q (part_of messages es) ≡ cond (messages q.0) (find key_cmp q es) None
-find-part {J} messages q [] =
-    elim (messages q.0) as
+-- what those that are kept by their keys have at a key: what all have, where the key is kept
+pub find-kept : {J : Type 0} (keeps : EntryKey → Bool) (q : EntryKey) (es : List (EntryKey × J))
+    → find key_cmp q (filter (λ e. keeps e.0) es) ≡ cond (keeps q) (find key_cmp q es) None
+find-kept {J} keeps q [] =
+    elim (keeps q) as
     (λ b. ◌≡◌ {A = Option J} None (cond b None None)) [ true ↦ refl | false ↦ refl ]
-find-part messages q (e ∷ es) =
-    let part = part_of messages es in
-    let rest = find-part messages q es in
+find-kept {J} keeps q (e ∷ es) =
+    let kept : List (EntryKey × J) = filter (λ x. keeps x.0) es in
+    let rest = find-kept keeps q es in
     elim (eq_by_cmp key_cmp q e.0) as
     (λ t. eq_by_cmp key_cmp q e.0 ≡ t
-    → find key_cmp q (cond (messages e.0.0) (e ∷ part) part)
-    ≡ cond (messages q.0) (cond t (Some e.1) (find key_cmp q es)) None) [
+    → find key_cmp q (cond (keeps e.0) (e ∷ kept) kept)
+    ≡ cond (keeps q) (cond t (Some e.1) (find key_cmp q es)) None) [
       | true ↦ λ t.
-          let asked : messages q.0 ≡ messages e.0.0 =
-          ap (λ (k : EntryKey). messages k.0) (same_key q e.0 t) in
-          elim (messages e.0.0) as
-          (λ b. messages e.0.0 ≡ b
-          → find key_cmp q (cond b (e ∷ part) part) ≡ cond (messages q.0) (Some e.1) None) [
+          let asked : keeps q ≡ keeps e.0 = ap keeps (same_key q e.0 t) in
+          elim (keeps e.0) as
+          (λ b. keeps e.0 ≡ b
+          → find key_cmp q (cond b (e ∷ kept) kept) ≡ cond (keeps q) (Some e.1) None) [
             | true ↦
-                λ b. ap (λ u. cond u (Some e.1) (find key_cmp q part)) t
+                λ b. ap (λ u. cond u (Some e.1) (find key_cmp q kept)) t
                 ∙ ap (λ u. cond u (Some e.1) None) (sym (asked ∙ b))
             | false ↦
                 λ b. rest ∙ ap (λ u. cond u (find key_cmp q es) None) (asked ∙ b)
                 ∙ ap (λ u. cond u (Some e.1) None) (sym (asked ∙ b))
           ] refl
       | false ↦
-          λ t. elim (messages e.0.0) as
-          (λ b. find key_cmp q (cond b (e ∷ part) part)
-          ≡ cond (messages q.0) (find key_cmp q es) None) [
-            | true ↦ ap (λ u. cond u (Some e.1) (find key_cmp q part)) t ∙ rest
+          λ t. elim (keeps e.0) as
+          (λ b. find key_cmp q (cond b (e ∷ kept) kept)
+          ≡ cond (keeps q) (find key_cmp q es) None) [
+            | true ↦ ap (λ u. cond u (Some e.1) (find key_cmp q kept)) t ∙ rest
             | false ↦ rest
           ]
     ] refl
+
+-- what the part has at a key: what the whole has, where the message is of the part
+pub find-part : {J : Type 0} (messages : List ℕ → Bool) (q : EntryKey) (es : List (EntryKey × J))
+    → find key_cmp q (part_of messages es) ≡ cond (messages q.0) (find key_cmp q es) None
+find-part messages q es = find-kept (λ k. messages k.0) q es
 
 part-IsMap : (messages : List ℕ → Bool) (es : Entries) → IsMap key_cmp es
     → IsMap key_cmp (part_of messages es)

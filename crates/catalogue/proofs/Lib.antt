@@ -23,6 +23,7 @@ pub mod ClashWalksLemmas
 pub mod EditStampOrderLemmas
 pub mod EntriesBorrowedLemmas
 pub mod EntriesFilteredLemmas
+pub mod EntriesOfferedLemmas
 pub mod LabelsLemmas
 pub mod LanguageLemmas
 pub mod LiveLanguagesLemmas

@@ -7,7 +7,6 @@ use Rattle.std.specs.Str.{bytes_eq}
 use Rattle.std.specs.Cmp.Lexicographic.{nat_list_cmp_total}
 use Rattle.std.proofs.lemmas.Bool.{cases_Bool}
 use Rattle.std.proofs.lemmas.Cmp.{tied_itself}
-use Rattle.std.proofs.lemmas.List.{map-append}
 use Rattle.std.proofs.lemmas.List.Elements.{All-nil}
 use Rattle.std.proofs.lemmas.Slice.Eq.{bytes_eq-Decides}
 use Rattle.lang_core.specs.Text.{pieces}
@@ -28,7 +27,11 @@ use Rattle.catalogue.specs.declared.reply.Reply.{Reply}
 use Rattle.catalogue.specs.declared.reply.Reply.TheVariants.{Matched, Default, Nothing}
 use Rattle.catalogue.specs.Asking.{Finds, IsChosenIn, IsLookedUpIn}
 use Rattle.catalogue.specs.LiveReplies.{IsReplyTo}
+use Rattle.std.specs.Prelude.{filter}
+use Rattle.nego_core.specs.Offer.{is_offered}
 use Rattle.catalogue.specs.Live.{Labelled, languages, is_live}
+use Rattle.catalogue.specs.EntriesOffered.{offered_labels}
+use Rattle.catalogue.proofs.EntriesOfferedLemmas.{languages_more}
 use Rattle.lang_core.proofs.Basics.{is_false as false_if}
 use Rattle.cell_core.proofs.Basics.{tied_order as tied}
 use Rattle.catalogue.proofs.CatalogueNestedLemmas.{text_exact}
@@ -128,37 +131,37 @@ replied widening labels items default choice.Nothing Nothing h r = h
 
 -- ---- the earliest that is matched
 
--- the earliest of the labels before those that are left
-abbrev pub IsEarliestBefore : Scheme → List Item → Labelled → Labelled → Option Earliest → Type 0
-IsEarliestBefore scheme items all left earliest =
+-- the earliest of the offered labels before those that are left
+abbrev pub IsEarliestBefore : Scheme → List Item → List Item → Labelled → Labelled
+    → Option Earliest → Type 0
+IsEarliestBefore scheme items offer all left earliest =
     (seen : Labelled) × (seen ++ left ≡ all)
-    × MatchEarliest scheme items (languages seen) earliest
+    × MatchEarliest scheme items (languages (offered_labels offer seen)) earliest
 
 -- before all labels there is none
-pub none_before : (scheme : Scheme) (items : List Item) (all : Labelled)
-    → IsEarliestBefore scheme items all all None
-none_before scheme items all =
+pub none_before : (scheme : Scheme) (items offer : List Item) (all : Labelled)
+    → IsEarliestBefore scheme items offer all all None
+none_before scheme items offer all =
     ([], refl, All-nil (λ l. (n : ℕ) → ¬ IsMatchedAt scheme items l n))
 
--- the next label may be earlier
-pub next_before : (scheme : Scheme) (items : List Item) (all left : Labelled)
+-- the next label may be earlier, if it is offered
+pub next_before : (scheme : Scheme) (items offer : List Item) (all left : Labelled)
     (e : List ℕ × List (List ℕ)) (rest : Labelled) (earliest next : Option Earliest)
-    → IsEarliestBefore scheme items all left earliest → left ≡ e ∷ rest
+    → IsEarliestBefore scheme items offer all left earliest → left ≡ e ∷ rest
     → ((langs : List (List ℕ)) → MatchEarliest scheme items langs earliest
-    → MatchEarliest scheme items (langs ++ e.0 ∷ []) next)
-    → IsEarliestBefore scheme items all rest next
-next_before scheme items all left e rest earliest next h is step = (
+    → MatchEarliest scheme items (langs ++ filter (is_offered offer) (e.0 ∷ [])) next)
+    → IsEarliestBefore scheme items offer all rest next
+next_before scheme items offer all left e rest earliest next h is step = (
   h.0 ++ e ∷ [],
   append_assoc h.0 (e ∷ []) rest ∙ (ap (λ (x : Labelled). h.0 ++ x) (sym is) ∙ h.1),
   subst (λ (x : List (List ℕ)). MatchEarliest scheme items x next)
-      (sym (map-append (λ (x : List ℕ × List (List ℕ)). x.0) h.0 (e ∷ [])))
-      (step (languages h.0) h.2),
+      (sym (languages_more offer h.0 e)) (step (languages (offered_labels offer h.0)) h.2),
 )
 
 -- where none is left, it is that of all
-pub all_before : (scheme : Scheme) (items : List Item) (all left : Labelled)
-    (earliest : Option Earliest) → IsEarliestBefore scheme items all left earliest → left ≡ []
-    → MatchEarliest scheme items (languages all) earliest
-all_before scheme items all left earliest h is =
-    subst (λ (x : Labelled). MatchEarliest scheme items (languages x) earliest)
-    (sym (append-nil h.0) ∙ (ap (λ (x : Labelled). h.0 ++ x) (sym is) ∙ h.1)) h.2
+pub all_before : (scheme : Scheme) (items offer : List Item) (all left : Labelled)
+    (earliest : Option Earliest) → IsEarliestBefore scheme items offer all left earliest
+    → left ≡ [] → MatchEarliest scheme items (languages (offered_labels offer all)) earliest
+all_before scheme items offer all left earliest h is =
+    subst (λ (x : Labelled). MatchEarliest scheme items (languages (offered_labels offer x))
+    earliest) (sym (append-nil h.0) ∙ (ap (λ (x : Labelled). h.0 ++ x) (sym is) ∙ h.1)) h.2

@@ -15,6 +15,7 @@ pub mod Edits
 pub mod Entries
 pub mod EntriesBorrowed
 pub mod EntriesEq
+pub mod EntriesOffered
 pub mod Equality
 pub mod Labels
 pub mod Languages

@@ -12,6 +12,8 @@ ghost use Rattle.catalogue.specs.EntriesBorrowed.{labelled_of};
 ghost use Rattle.catalogue.specs.Reply.{reply_of};
 ghost use Rattle.catalogue.specs.Asking.{IsFilterAnswer, IsLookupAnswer, IsLookupAnswerBy};
 ghost use Rattle.catalogue.specs.LiveMessages.{AreMessages};
+ghost use Rattle.catalogue.specs.EntriesOffered.{offered_cells, offered_labels};
+ghost use Rattle.nego_core.specs.Offer.{items_of};
 ghost use Rattle.catalogue.specs.Messages.{messages_left};
 
 use crate::catalogue::Catalogue;
@@ -22,7 +24,7 @@ use crate::messages::Messages;
 use crate::reply::LentReply;
 use cell_core::{Label, MessageId};
 use lang_core::Lang;
-use nego_core::{PriorityList, Scheme, Widening, filter_lent};
+use nego_core::{Offer, PriorityList, Scheme, Widening, filter_lent};
 use std::alloc::{AllocError, Global};
 
 impl Catalogue {
@@ -44,11 +46,11 @@ impl Catalogue {
         Messages::new(self.map())
     }
 
-    /// The live labels of a message, as a set.
-    fn live(&self, id: &MessageId) -> Live<'_>
-        ensures { live_in result ≡ live self.now id.now }
+    /// The live labels of a message that are offered, as a set.
+    fn live<'o>(&self, id: &MessageId, offer: Offer<'o>) -> Live<'_, 'o>
+        ensures { live_in result ≡ live (offered_cells (items_of offer.entry) self.now) id.now }
     {
-        Live::new(self.map().get(id))
+        Live::new(self.map().get(id), offer)
     }
 
     /// The live labels of a message whose languages the list takes, in its order (RFC 4647,
@@ -62,7 +64,22 @@ impl Catalogue {
     ) -> Result<LentEntries<'a>, AllocError>
         ensures { IfOk result (IsFilterAnswer self.now id.now scheme list.now) }
     {
-        let labels = listed(alloc, self.labels(id))?;
+        self.ask_filter_by(alloc, id, Offer::All, list, scheme)
+    }
+
+    /// What [`Catalogue::ask_filter`] answers without the labels that are not offered.
+    pub fn ask_filter_by<'a>(
+        &'a self,
+        alloc: Global,
+        id: &MessageId,
+        offer: Offer<'_>,
+        list: &PriorityList,
+        scheme: Scheme,
+    ) -> Result<LentEntries<'a>, AllocError>
+        ensures { IfOk result (IsFilterAnswer (offered_cells (items_of offer.entry) self.now) id.now
+            scheme list.now) }
+    {
+        let labels = listed(alloc, self.labels(id), offer)?;
         let langs = languages_of(alloc, &labels)?;
         match filter_lent(alloc, list, scheme, &langs) {
             Ok(picks) => pick_all(alloc, &labels, &picks),
@@ -83,36 +100,44 @@ impl Catalogue {
         ensures { IsLookupAnswer self.now id.now list.now (option_map (λ l. l.now) default.entry)
             (reply_of result) }
     {
-        self.ask_lookup_by(id, list, Widening::Off, default)
+        self.ask_lookup_by(id, Offer::All, list, Widening::Off, default)
     }
 
-    /// The live label of a message that the list looks up, where a range may find the languages
-    /// that it matches too ([`nego_core::lookup_widened`], project rule), or that of the default,
-    /// or nothing. With [`Widening::Off`] it is [`Catalogue::ask_lookup`].
+    /// What [`Catalogue::ask_lookup`] answers without the labels that are not offered, where a
+    /// range may find the languages that it matches too ([`nego_core::lookup_widened`], project
+    /// rule).
     ///
-    /// It takes no memory. A default is available only where it has a live label, and is not
-    /// widened.
+    /// It takes no memory. A default is available only where it has a live label that is offered,
+    /// and is not widened.
     pub fn ask_lookup_by<'a>(
         &'a self,
         id: &MessageId,
+        offer: Offer<'_>,
         list: &PriorityList,
         widening: Widening,
         default: Option<&Lang>,
     ) -> LentReply<'a>
-        ensures { IsLookupAnswerBy widening self.now id.now list.now
-            (option_map (λ l. l.now) default.entry) (reply_of result) }
+        ensures { IsLookupAnswerBy widening (offered_cells (items_of offer.entry) self.now) id.now
+            list.now (option_map (λ l. l.now) default.entry) (reply_of result) }
     {
-        self.live(id).look_up(list, widening, default)
+        self.live(id, offer).look_up(list, widening, default)
     }
 }
 
-/// The labels in a list.
-fn listed<'a>(alloc: Global, labels: Labels<'a>) -> Result<Vec<(&'a Lang, &'a Label)>, AllocError>
-    ensures { IfOk result (λ listed. labelled_of listed.items ≡ labels_left labels.entry) }
+/// The labels that are offered, in a list.
+fn listed<'a>(
+    alloc: Global,
+    labels: Labels<'a>,
+    offer: Offer<'_>,
+) -> Result<Vec<(&'a Lang, &'a Label)>, AllocError>
+    ensures { IfOk result (λ listed. labelled_of listed.items
+        ≡ offered_labels (items_of offer.entry) (labels_left labels.entry)) }
 {
     let mut listed = Vec::new(alloc);
-    for pair in labels {
-        listed.push(pair)?;
+    for (lang, label) in labels {
+        if offer.offers(lang) {
+            listed.push((lang, label))?;
+        }
     }
     Ok(listed)
 }

@@ -19,6 +19,10 @@ ghost use Rattle.list_core.specs.declared.scheme.Scheme.{Scheme};
 ghost use Rattle.nego_core.specs.declared.widening.Widening.{Widening};
 ghost use Rattle.nego_core.specs.declared.widening.Widening.TheVariants.{Off};
 ghost use Rattle.catalogue.specs.declared.reply.Reply.{Reply};
+ghost use Rattle.std.specs.Prelude.{All};
+ghost use Rattle.catalogue.specs.declared.reply.Reply.TheVariants.{Default, Matched};
+ghost use Rattle.nego_core.specs.Offer.{all_items, is_offered};
+ghost use Rattle.catalogue.specs.EntriesOffered.{offered_cells};
 ghost use Rattle.catalogue.specs.Live.{languages, live};
 ghost use Rattle.catalogue.specs.Languages.{AreLanguages, LanguageMap, texts_in};
 ghost use Rattle.nego_core.specs.Shortlist.{AreAmong};
@@ -192,4 +196,27 @@ pub fn a_part_of_changes()
 pub fn languages_serve_each_message()
     ensures { (cells : Entries) (langs : LanguageMap) → AreLanguages cells langs → (id : List ℕ)
         → AreAmong (languages (live cells id)) (texts_in langs) }
+{}
+
+/// A question under an offer, which is that question of the cells that are offered: where all is
+/// offered it is the question without one; no label is answered that is not offered; and whatever
+/// cells there are in languages that are not offered, also none, the question is one.
+pub fn what_is_offered_answers()
+    ensures all { (cells : Entries) → offered_cells all_items cells ≡ cells }
+    ensures matched { (offer : List Item) (cells : Entries) (id : List ℕ) (widening : Widening)
+        (items : List Item) (default : Option (List ℕ)) (lang : List ℕ) (label : List (List ℕ))
+        → IsLookupAnswerBy widening (offered_cells offer cells) id items default
+        (Matched lang label) → IsTrue (is_offered offer lang) }
+    ensures default { (offer : List Item) (cells : Entries) (id : List ℕ) (widening : Widening)
+        (items : List Item) (default : Option (List ℕ)) (lang : List ℕ) (label : List (List ℕ))
+        → IsLookupAnswerBy widening (offered_cells offer cells) id items default
+        (Default lang label) → IsTrue (is_offered offer lang) }
+    ensures filter { (offer : List Item) (cells : Entries) (id : List ℕ) (scheme : Scheme)
+        (items : List Item) (answer : Weighed)
+        → IsFilterAnswer (offered_cells offer cells) id scheme items answer
+        → All (λ e. IsTrue (is_offered offer e.0)) answer }
+    ensures rest { (offer : List Item) (a b : Entries) → IsMap key_cmp a → IsMap key_cmp b
+        → ((key : EntryKey) → IsTrue (is_offered offer key.1)
+        → find key_cmp key a ≡ find key_cmp key b)
+        → offered_cells offer a ≡ offered_cells offer b }
 {}

@@ -1,10 +1,12 @@
 //! The live labels of a message, as a set of languages.
 
-ghost use Rattle.std.specs.Prelude.{◌≡◌};
+ghost use Rattle.std.specs.Prelude.{◌≡◌, ◌++◌, ◌∷◌, [], ℕ, List, filter};
 ghost use Rattle.std.specs.FinMap.Entries.{find};
 ghost use Rattle.cell_core.specs.Entry.{text_cmp};
 ghost use Rattle.catalogue.specs.Live.{languages, live_of};
 ghost use Rattle.catalogue.specs.Labels.{labels_left};
+ghost use Rattle.catalogue.specs.EntriesOffered.{offered_labels};
+ghost use Rattle.nego_core.specs.Offer.{is_offered, items_of};
 ghost use Rattle.nego_core.specs.WidenedChoice.{MatchEarliest};
 ghost use Rattle.std.specs.Option.{option_map};
 ghost use Rattle.cell_core.specs.KeyedFound.{with_key};
@@ -15,17 +17,19 @@ use crate::reply::LentReply;
 use cell_core::{Cell, Keyed, Label};
 use lang_core::Lang;
 use nego_core::{
-    Choice, Earliest, Holds, Languages, PriorityList, Shortlist, WidenedRanges, Widening, choose,
-    choose_widened,
+    Choice, Earliest, Holds, Languages, Offer, PriorityList, Shortlist, WidenedRanges, Widening,
+    choose, choose_widened,
 };
 
-/// The live labels of a message, which a lookup searches by their languages' texts.
+/// The live labels of a message that are offered, which a lookup searches by their languages'
+/// texts.
 #[derive(Drop)]
-pub(crate) struct Live<'a> {
+pub(crate) struct Live<'a, 'o> {
     cells: Option<&'a Keyed<Lang, Cell>>,
+    offer: Offer<'o>,
 }
 
-impl<'a> Live<'a> {
+impl<'a, 'o> Live<'a, 'o> {
     ghost use Rattle.std.specs.Option.{option_copied};
     ghost use Rattle.catalogue.specs.Asking.{IsChosenIn, IsLookedUpIn};
     ghost use Rattle.catalogue.specs.CatalogueFlat.{inner_of};
@@ -34,19 +38,20 @@ impl<'a> Live<'a> {
     ghost use Rattle.catalogue.specs.LiveReplies.{IsReplyTo};
     ghost use Rattle.nego_core.specs.Shortlist.{AreAmong, IsThere};
 
-    /// The live labels of these cells.
-    pub(crate) fn new(cells: Option<&'a Keyed<Lang, Cell>>) -> Live<'a>
-        ensures { live_in result ≡ live_of (inner_of (option_copied cells.entry)) }
+    /// The live labels of these cells that are offered.
+    pub(crate) fn new(cells: Option<&'a Keyed<Lang, Cell>>, offer: Offer<'o>) -> Live<'a, 'o>
+        ensures { live_in result ≡ offered_labels (items_of offer.entry)
+            (live_of (inner_of (option_copied cells.entry))) }
     {
-        Live { cells }
+        Live { cells, offer }
     }
 
-    /// The language of this text with its label, where it is live.
+    /// The language of this text with its label, where it is live and offered.
     pub(crate) fn label(&self, text: &str) -> Option<(&'a Lang, &'a Label)>
         ensures { lent_pair result ≡ with_key text.now (find text_cmp text.now (live_in self.now)) }
     {
         match self.cells {
-            Some(cells) => label_in(cells, text),
+            Some(cells) => label_in(cells, self.offer, text),
             None => None,
         }
     }
@@ -116,7 +121,7 @@ impl<'a> Live<'a> {
     }
 }
 
-impl Holds for Live<'_> {
+impl Holds for Live<'_, '_> {
     ghost use Rattle.catalogue.specs.Live.{is_live};
     ghost use Rattle.catalogue.specs.LiveIn.{live_in};
 
@@ -127,7 +132,7 @@ impl Holds for Live<'_> {
     }
 }
 
-impl Languages for Live<'_> {
+impl Languages for Live<'_, '_> {
     ghost use Rattle.catalogue.specs.Live.{languages};
     ghost use Rattle.catalogue.specs.LiveIn.{live_in};
 
@@ -138,24 +143,62 @@ impl Languages for Live<'_> {
     }
 
     fn earliest(&self, ranges: &WidenedRanges<'_>) -> Option<Earliest<'_>> {
-        earliest_of(Labels::new(self.cells), ranges)
+        earliest_of(Labels::new(self.cells), self.offer, ranges)
     }
 }
 
-/// Of the languages that the ranges match the earliest.
-fn earliest_of<'a>(labels: Labels<'a>, ranges: &WidenedRanges<'_>) -> Option<Earliest<'a>>
+/// Of the languages that are offered and that the ranges match the earliest.
+fn earliest_of<'a>(
+    labels: Labels<'a>,
+    offer: Offer<'_>,
+    ranges: &WidenedRanges<'_>,
+) -> Option<Earliest<'a>>
     ensures { MatchEarliest ranges.now.scheme ranges.now.list.now
-        (languages (labels_left labels.entry)) result }
+        (languages (offered_labels (items_of offer.entry) (labels_left labels.entry))) result }
 {
     let mut earliest = None;
     for (lang, _label) in labels {
-        earliest = ranges.earlier(earliest, lang);
+        earliest = earlier_of(earliest, lang, offer, ranges);
     }
     earliest
 }
 
+/// The earlier of the languages, with this one where it is offered.
+fn earlier_of<'a>(
+    earliest: Option<Earliest<'a>>,
+    lang: &'a Lang,
+    offer: Offer<'_>,
+    ranges: &WidenedRanges<'_>,
+) -> Option<Earliest<'a>>
+    ensures { (langs : List (List ℕ))
+        → MatchEarliest ranges.now.scheme ranges.now.list.now langs earliest.entry
+        → MatchEarliest ranges.now.scheme ranges.now.list.now
+        (langs ++ filter (is_offered (items_of offer.entry)) (lang.now ∷ [])) result }
+{
+    if offer.offers(lang) {
+        ranges.earlier(earliest, lang)
+    } else {
+        earliest
+    }
+}
+
+/// The language of this text with its label, where it is live and offered.
+fn label_in<'a>(
+    cells: &'a Keyed<Lang, Cell>,
+    offer: Offer<'_>,
+    text: &str,
+) -> Option<(&'a Lang, &'a Label)>
+    ensures { lent_pair result ≡ with_key text.now
+        (find text_cmp text.now (offered_labels (items_of offer.entry) (live_of cells.now))) }
+{
+    match live_label_in(cells, text) {
+        Some((lang, label)) if offer.offers(lang) => Some((lang, label)),
+        _ => None,
+    }
+}
+
 /// The language of this text with its label, where it is live.
-fn label_in<'a>(cells: &'a Keyed<Lang, Cell>, text: &str) -> Option<(&'a Lang, &'a Label)>
+fn live_label_in<'a>(cells: &'a Keyed<Lang, Cell>, text: &str) -> Option<(&'a Lang, &'a Label)>
     ensures { lent_pair result ≡ with_key text.now (find text_cmp text.now (live_of cells.now)) }
 {
     match cells.get_by(text) {

@@ -10,7 +10,7 @@ use crate::live::Live;
 use crate::reply::LentReply;
 use cell_core::{Cell, Iter, Keyed, Label, MessageId};
 use lang_core::Lang;
-use nego_core::{PriorityList, Shortlist, Widening};
+use nego_core::{Offer, PriorityList, Shortlist, Widening};
 use std::marker::Model;
 
 /// A message with its live labels, borrowed from the catalogue.
@@ -37,6 +37,8 @@ impl<'a> Message<'a> {
     ghost use Rattle.catalogue.specs.Reply.{reply_of};
     ghost use Rattle.catalogue.specs.Live.{languages};
     ghost use Rattle.catalogue.specs.Labels.{labels_left};
+    ghost use Rattle.catalogue.specs.EntriesOffered.{offered_labels};
+    ghost use Rattle.nego_core.specs.Offer.{items_of};
     ghost use Rattle.nego_core.specs.Shortlist.{AreAmong};
 
     /// Its id.
@@ -89,20 +91,25 @@ impl<'a> Message<'a> {
         ensures { IsLookedUpIn widening self.now.1 list.now
             (option_map (λ l. l.now) default.entry) (reply_of result) }
     {
-        Live::new(Some(self.cells)).look_up(list, widening, default)
+        Live::new(Some(self.cells), Offer::All).look_up(list, widening, default)
     }
 
-    /// What [`Message::lookup_by`] answers by the whole list, where it ranks languages among which
-    /// are all of its own. For all messages of a catalogue these are its
-    /// [`languages`](crate::Catalogue::languages).
+    /// What [`Message::lookup_by`] answers by the whole list without the labels that are not
+    /// offered, where the shortlist ranks languages among which are all of its own. For all
+    /// messages of a catalogue these are its [`languages`](crate::Catalogue::languages).
     ///
     /// It takes no memory, and tries no more languages than are ranked.
-    pub fn lookup_within(&self, shortlist: &Shortlist<'_>, default: Option<&Lang>) -> LentReply<'a>
+    pub fn lookup_within(
+        &self,
+        offer: Offer<'_>,
+        shortlist: &Shortlist<'_>,
+        default: Option<&Lang>,
+    ) -> LentReply<'a>
         ensures { AreAmong (languages self.now.1) shortlist.now.langs
-            → IsLookedUpIn shortlist.now.widening self.now.1 shortlist.now.items
-            (option_map (λ l. l.now) default.entry) (reply_of result) }
+            → IsLookedUpIn shortlist.now.widening (offered_labels (items_of offer.entry) self.now.1)
+            shortlist.now.items (option_map (λ l. l.now) default.entry) (reply_of result) }
     {
-        Live::new(Some(self.cells)).look_up_within(shortlist, default)
+        Live::new(Some(self.cells), offer).look_up_within(shortlist, default)
     }
 }
 

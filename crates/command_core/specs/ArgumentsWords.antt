@@ -51,6 +51,10 @@ abbrev pub default_rule : Rule
 default_rule =
     record (new_rule (codes "default")) { long = Some (codes "default"); value_names = 1 }
 
+-- `--offer FIELD`
+abbrev pub offer_rule : Rule
+offer_rule = record (new_rule (codes "offer")) { long = Some (codes "offer"); value_names = 1 }
+
 -- a priority list of language ranges
 abbrev pub field_rule : Text → Rule
 field_rule name = record (new_rule name) { value_names = 1; required = true }
@@ -160,21 +164,23 @@ import_app = with_rule (new_app (codes "import")) now_rule
 abbrev pub export_app : App
 export_app = new_app (codes "export")
 
--- `filter --id ID [--scheme SCHEME] [--lenient] FIELD`
+-- `filter --id ID [--offer FIELD] [--scheme SCHEME] [--lenient] FIELD`
 abbrev pub filter_app : Schemes → App
 filter_app schemes =
     with_rule
-    (with_rule (with_rule (with_rule (new_app (codes "filter")) id_rule) (scheme_rule schemes))
-    (flag_rule (codes "lenient"))) (field_rule (codes "field"))
+    (with_rule (with_rule (with_rule (with_rule (new_app (codes "filter")) id_rule) offer_rule)
+    (scheme_rule schemes)) (flag_rule (codes "lenient"))) (field_rule (codes "field"))
 
--- `lookup --id ID [--scheme SCHEME] [--lenient] [--widen] [--default LANG] FIELD`
+-- `lookup --id ID [--offer FIELD] [--scheme SCHEME] [--lenient] [--widen] [--default LANG] FIELD`
 abbrev pub lookup_app : Schemes → App
 lookup_app schemes =
-    preferences_app (with_rule (new_app (codes "lookup")) id_rule) schemes (codes "field")
+    preferences_app (with_rule (with_rule (new_app (codes "lookup")) id_rule) offer_rule) schemes
+    (codes "field")
 
--- `bundle [--scheme SCHEME] [--lenient] [--widen] [--default LANG] FIELD`
+-- `bundle [--offer FIELD] [--scheme SCHEME] [--lenient] [--widen] [--default LANG] FIELD`
 abbrev pub bundle_app : Schemes → App
-bundle_app schemes = preferences_app (new_app (codes "bundle")) schemes (codes "field")
+bundle_app schemes =
+    preferences_app (with_rule (new_app (codes "bundle")) offer_rule) schemes (codes "field")
 
 -- `missing --lang LANG`
 abbrev pub missing_app : App

@@ -17,7 +17,7 @@ use Rattle.front_core.specs.Ask.{HasQuestion, IsAnswer, AnswersBundle, AnswersFi
 use Rattle.front_core.specs.Ask.{IsFilter, IsLookup, RefusesFilter, RefusesLookup}
 use Rattle.front_core.specs.Change.{IsDelete, IsPutOf, RefusesKey, RefusesPutOf}
 use Rattle.front_core.specs.Exchange.{ShowsView}
-use Rattle.front_core.specs.Preferences.{ArePreferences, RefusesPreferences}
+use Rattle.front_core.specs.Reader.{IsReader, RefusesReader}
 use Rattle.front_core.specs.Translate.{AnswersMissing, AnswersOutdated, IsMissing, IsOutdated}
 use Rattle.front_core.specs.Translate.{RefusesMissing, RefusesOutdated}
 use Rattle.front_core.specs.Fault.{IsOf, cell_fault}
@@ -174,13 +174,14 @@ Answers (task.Outdated words) reader text answered =
     AnswersQuestion (IsOutdated words.lang words.source) AnswersOutdated reader text answered
 Answers task.Changes reader text answered = AnswersInput AreChanges reader text answered
 Answers (task.Filter words) reader text answered =
-    AnswersQuestion (IsFilter words.id words.field) (λ asked site. AnswersFilter site.cells asked)
-    reader text answered
+    AnswersQuestion (IsFilter words.id words.offers words.field)
+    (λ asked site. AnswersFilter site.cells asked) reader text answered
 Answers (task.Lookup words) reader text answered =
-    AnswersQuestion (IsLookup words.id words.preferences.field words.preferences.default)
+    AnswersQuestion (IsLookup words.id words.reader.offers words.reader.preferences.field
+    words.reader.preferences.default)
     (λ asked site. AnswersLookup site.cells asked) reader text answered
 Answers (task.Bundle words) reader text answered =
-    AnswersQuestion (ArePreferences words.field words.default)
+    AnswersQuestion (IsReader words.offers words.preferences.field words.preferences.default)
     (λ asked site. AnswersBundle site.cells asked) reader text answered
 Answers (task.Sync checks) reader text answered =
     AnswersInput (IsSync checks) reader text answered
@@ -211,14 +212,16 @@ Refuses (task.Outdated words) reader refused =
 Refuses task.Changes reader refused =
     RefusesInput NoWords RefusesNothing RefusesChanges reader refused
 Refuses (task.Filter words) reader refused =
-    RefusesQuestion (IsFilter words.id words.field) (RefusesFilter words.id words.field) reader
-    refused
+    RefusesQuestion (IsFilter words.id words.offers words.field)
+    (RefusesFilter words.id words.offers words.field) reader refused
 Refuses (task.Lookup words) reader refused =
-    RefusesQuestion (IsLookup words.id words.preferences.field words.preferences.default)
-    (RefusesLookup words.id words.preferences.field words.preferences.default) reader refused
+    RefusesQuestion (IsLookup words.id words.reader.offers words.reader.preferences.field
+    words.reader.preferences.default)
+    (RefusesLookup words.id words.reader.offers words.reader.preferences.field
+    words.reader.preferences.default) reader refused
 Refuses (task.Bundle words) reader refused =
-    RefusesQuestion (ArePreferences words.field words.default)
-    (RefusesPreferences words.field words.default) reader refused
+    RefusesQuestion (IsReader words.offers words.preferences.field words.preferences.default)
+    (RefusesReader words.offers words.preferences.field words.preferences.default) reader refused
 Refuses (task.Sync checks) reader refused =
     RefusesInput NoWords RefusesNothing (RefusesSync checks) reader refused
 Refuses task.Replay reader refused =

@@ -3,11 +3,14 @@ use Rattle.std.specs.Prelude.{Bool, false, List, Option, None, Some, codes, opti
 use Rattle.std.specs.Prelude.{if◌then◌else◌}
 use Rattle.std.specs.Str.{bytes_eq}
 use Rattle.clap.specs.Words.{Row, Text, first_of}
+use Rattle.front_core.specs.Offering.{Offers, Items}
+use Rattle.front_core.specs.Offering as offers
 use Rattle.front_core.specs.Preferences.{FieldText}
 use Rattle.list_core.specs.declared.field.Malformed.{Malformed}
 use Rattle.list_core.specs.declared.field.Malformed.TheVariants.{Refused, PassedOver}
 use Rattle.list_core.specs.declared.scheme.Scheme.{Scheme}
 use Rattle.list_core.specs.declared.scheme.Scheme.TheVariants.{Basic, Extended}
+use Rattle.nego_core.specs.Offer.{all_items}
 use Rattle.nego_core.specs.declared.widening.Widening.{Widening}
 use Rattle.nego_core.specs.declared.widening.Widening.TheVariants.{By, Off}
 
@@ -50,3 +53,24 @@ preference_words id rows = option_map (λ field. record {
   field = field;
   default = first_of (codes "default") rows;
 }) (field_of id rows)
+
+-- what is offered: the languages of `--offer`, or all
+abbrev pub offer_of : Option Text → Offers
+offer_of None = Items all_items
+offer_of (Some text) = offers.Text text
+
+-- the same of the words of a command
+abbrev pub offer_words : List Row → Offers
+offer_words rows = offer_of (first_of (codes "offer") rows)
+
+-- a reader: what is offered to it, and what it prefers of that
+pub record ReaderWords : Type 0 where
+  pub offers : Offers
+  pub preferences : PreferenceWords
+
+-- these, or none where the field is missing
+abbrev pub reader_words : List Row → Option ReaderWords
+reader_words rows = option_map (λ preferences. record {
+  offers = offer_words rows;
+  preferences = preferences;
+}) (preference_words (codes "field") rows)

@@ -2,10 +2,12 @@
 use Rattle.std.specs.Prelude.{◌&&◌, ℕ, Bool, List, None, Option, Some, codes, nat_lt}
 use Rattle.std.specs.Prelude.{option_and_then, option_map}
 use Rattle.clap.specs.Words.{Row, Text, all_of, first_of}
+use Rattle.front_core.specs.Offering.{Offers}
 use Rattle.front_core.specs.Preferences.{FieldText}
 use Rattle.nego_core.specs.declared.widening.Widening.{Widening}
 use Rattle.nego_core.specs.declared.widening.Widening.TheVariants.{By, Off}
-use Rattle.command_core.specs.TaskFieldWords.{PreferenceWords, field_of, preference_words}
+use Rattle.command_core.specs.TaskFieldWords.{PreferenceWords, ReaderWords, field_of, offer_words}
+use Rattle.command_core.specs.TaskFieldWords.{preference_words, reader_words}
 
 -- what a reader prefers, and the tags among which one is picked
 pub record PickWords : Type 0 where
@@ -17,15 +19,16 @@ pub record PickAllWords : Type 0 where
   pub field : FieldText
   pub tags : List Text
 
--- a message, and the priority list that filters its labels
+-- a message, what is offered, and the priority list that filters its labels
 pub record FilterWords : Type 0 where
   pub id : Text
+  pub offers : Offers
   pub field : FieldText
 
--- a message, and what its reader prefers
+-- a message, and its reader
 pub record LookupWords : Type 0 where
   pub id : Text
-  pub preferences : PreferenceWords
+  pub reader : ReaderWords
 
 -- a language, and the source that its labels translate
 pub record OutdatedWords : Type 0 where
@@ -54,15 +57,15 @@ pick_all_words words = where_plain words.preferences.field.widening words.prefer
 abbrev pub filter_words : List Row → Option FilterWords
 filter_words rows =
     option_and_then
-    (λ id. option_map (λ field. record { id = id; field = field }) (field_of (codes "field") rows))
-    (first_of (codes "id") rows)
+    (λ id. option_map (λ field. record { id = id; offers = offer_words rows; field = field })
+    (field_of (codes "field") rows)) (first_of (codes "id") rows)
 
 -- what `lookup` is given; none where a word is missing
 abbrev pub lookup_words : List Row → Option LookupWords
 lookup_words rows =
     option_and_then
-    (λ id. option_map (λ preferences. record { id = id; preferences = preferences })
-    (preference_words (codes "field") rows)) (first_of (codes "id") rows)
+    (λ id. option_map (λ reader. record { id = id; reader = reader }) (reader_words rows))
+    (first_of (codes "id") rows)
 
 -- what `outdated` is given; none where a word is missing
 abbrev pub outdated_words : List Row → Option OutdatedWords

@@ -1,13 +1,15 @@
 -- What a task holds of its words.
 use Rattle.std.specs.Prelude.{map, option_map}
+use Rattle.front_core.specs.Offering.{offers_of}
 use Rattle.front_core.specs.Preferences.{field_text}
 use Rattle.command_core.specs.TaskEditWords.{EditWords}
-use Rattle.command_core.specs.TaskFieldWords.{PreferenceWords}
+use Rattle.command_core.specs.TaskFieldWords.{PreferenceWords, ReaderWords}
 use Rattle.command_core.specs.TaskWords.{TaskWords, Pick, PickAll, New, Edit, Document, Missing}
 use Rattle.command_core.specs.TaskWords.{Outdated, Changes, Filter, Lookup, Bundle, Sync, Replay}
 use Rattle.command_core.specs.TaskWords.{Explain, View}
 use Rattle.command_core.specs.declared.edits.EditValues.{EditValues}
 use Rattle.command_core.specs.declared.task.PreferenceValues.{PreferenceValues}
+use Rattle.command_core.specs.declared.task.ReaderValues.{ReaderValues}
 use Rattle.command_core.specs.declared.task.Task.{Task}
 use Rattle.command_core.specs.declared.task.Task.TheVariants as task
 
@@ -29,6 +31,13 @@ preference_values values = record {
   default = option_map (λ s. s.now) values.default;
 }
 
+-- the words of a reader, by their bytes
+abbrev pub reader_values : ReaderValues → ReaderWords
+reader_values values = record {
+  offers = offers_of values.offering;
+  preferences = preference_values values.preferences;
+}
+
 -- the words of a task, by their bytes
 abbrev pub task_values : Task → TaskWords
 task_values (task.Pick preferences tags) =
@@ -43,10 +52,11 @@ task_values (task.Missing lang) = Missing lang.now
 task_values (task.Outdated lang source) =
     Outdated (record { lang = lang.now; source = source.now })
 task_values task.Changes = Changes
-task_values (task.Filter id field) = Filter (record { id = id.now; field = field_text field })
-task_values (task.Lookup id preferences) =
-    Lookup (record { id = id.now; preferences = preference_values preferences })
-task_values (task.Bundle preferences) = Bundle (preference_values preferences)
+task_values (task.Filter id offering field) =
+    Filter (record { id = id.now; offers = offers_of offering; field = field_text field })
+task_values (task.Lookup id reader) =
+    Lookup (record { id = id.now; reader = reader_values reader })
+task_values (task.Bundle reader) = Bundle (reader_values reader)
 task_values (task.Sync checks) = Sync checks
 task_values task.Replay = Replay
 task_values (task.Explain it) = Explain it

@@ -17,7 +17,7 @@ use Rattle.command_core.specs.TaskQuestionWords.{filter_words, is_refusal, looku
 use Rattle.command_core.specs.TaskQuestionWords.{outdated_words}
 use Rattle.command_core.specs.TaskQuestionWords.{pick_all_words, pick_words}
 use Rattle.command_core.specs.TaskEditWords.{EditWords, delete_words, put_words}
-use Rattle.command_core.specs.TaskFieldWords.{PreferenceWords, is_given, preference_words}
+use Rattle.command_core.specs.TaskFieldWords.{ReaderWords, is_given, reader_words}
 use Rattle.command_core.specs.declared.documents.DocumentTask.{DocumentTask}
 use Rattle.command_core.specs.declared.documents.DocumentTask.TheVariants as document
 use Rattle.command_core.specs.declared.task.Numbers.{Numbers}
@@ -58,7 +58,7 @@ pub data TaskWords : Type 0 where
   Changes : TaskWords
   Filter : (words : FilterWords) → TaskWords
   Lookup : (words : LookupWords) → TaskWords
-  Bundle : (words : PreferenceWords) → TaskWords
+  Bundle : (words : ReaderWords) → TaskWords
   Sync : (checks : Checks) → TaskWords
   Replay : TaskWords
   Explain : (number : ℕ) → TaskWords
@@ -116,7 +116,7 @@ task_words name numbers rows =
     else (if bytes_eq name (codes "filter") then option_map Filter (filter_words rows)
     else (if bytes_eq name (codes "lookup") then option_map Lookup (lookup_words rows)
     else (if bytes_eq name (codes "bundle") then
-    option_map Bundle (preference_words (codes "field") rows)
+    option_map Bundle (reader_words rows)
     else (if bytes_eq name (codes "summary") then
     Some (View (view.Summary (shows_of (is_given (first_of (codes "labels") rows)))))
     else (if bytes_eq name (codes "delta") then Some (Document document.Delta)

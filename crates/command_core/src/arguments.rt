@@ -7,7 +7,8 @@ ghost use Rattle.command_core.specs.ArgumentsWords.{checks_app, edit_app};
 ghost use Rattle.command_core.specs.ArgumentsWords.{field_rule, flag_rule, id_rule, lang_rule};
 ghost use Rattle.command_core.specs.ArgumentsWords.{not_after_rule, now_rule, number_rule};
 ghost use Rattle.command_core.specs.ArgumentsWords.{preferences_app};
-ghost use Rattle.command_core.specs.ArgumentsWords.{required_rule, scheme_rule, site_rule};
+ghost use Rattle.command_core.specs.ArgumentsWords.{offer_rule, required_rule, scheme_rule};
+ghost use Rattle.command_core.specs.ArgumentsWords.{site_rule};
 ghost use Rattle.command_core.specs.ArgumentsWords.{source_rule};
 ghost use Rattle.command_core.specs.ArgumentsWords.{words_rule};
 
@@ -71,7 +72,7 @@ pub(crate) fn lenient<'a>(alloc: Global) -> Arg<'a>
     flag(
         alloc,
         "lenient",
-        "Skip malformed elements of the ranges, also one that would refuse a language, as \
+        "Skip malformed elements of the ranges, even one that would exclude a language, such as \
             de;q=0.0000",
     )
 }
@@ -83,7 +84,8 @@ pub(crate) fn widen<'a>(alloc: Global) -> Arg<'a>
     flag(
         alloc,
         "widen",
-        "Let a range also find the languages that it matches, as en finds en-us; RFC 4647 does not",
+        "Let a range also find longer tags that it matches, as en finds en-us; RFC 4647 has no \
+            such lookup",
     )
 }
 
@@ -94,9 +96,22 @@ pub(crate) fn all<'a>(alloc: Global) -> Arg<'a>
     flag(
         alloc,
         "all",
-        "Print all tags that fit with their weights, best first; goes with neither --default nor \
-            --widen",
+        "Print all tags that fit with their weights, best first; cannot be combined with \
+            --default or --widen",
     )
+}
+
+/// `--offer`, the languages that readers are offered.
+pub(crate) fn offer<'a>(alloc: Global) -> Arg<'a>
+    ensures { IsArgument offer_rule result }
+{
+    Arg::new(alloc, "offer")
+        .long("offer")
+        .value_name("FIELD")
+        .help(
+            "The languages that are offered to readers, as an Accept-Language field; all by \
+                default. \"*, x;q=0\" offers all but those of private use",
+        )
 }
 
 /// `--now`, the moment of an edit.
@@ -106,7 +121,7 @@ pub(crate) fn now<'a>(alloc: Global) -> Arg<'a>
     Arg::new(alloc, "now")
         .long("now")
         .value_name("N")
-        .help("The moment of the edit, a whole number; by custom milliseconds since 1970")
+        .help("The time of the edit, a whole number, usually of milliseconds since 1970")
         .required(true)
         .value_parser(value_parser!(u64))
 }
@@ -118,7 +133,7 @@ pub(crate) fn not_after<'a>(alloc: Global) -> Arg<'a>
     Arg::new(alloc, "not-after")
         .long("not-after")
         .value_name("N")
-        .help("Refuse to join a document that has a time after this, a whole number")
+        .help("Refuse incoming documents with a later time than N, a whole number")
         .value_parser(value_parser!(u64))
 }
 
@@ -129,8 +144,8 @@ pub(crate) fn check_own<'a>(alloc: Global) -> Arg<'a>
     flag(
         alloc,
         "check-own",
-        "Refuse to join a document that has an edit of the site which the site lacks: it was put \
-            back to an older copy, or another site has its name",
+        "Refuse incoming documents with an edit that the site made itself and lacks: the site was \
+            put back to an older copy, or another site has its name",
     )
 }
 
@@ -141,17 +156,18 @@ pub(crate) fn labels<'a>(alloc: Global) -> Arg<'a>
     flag(
         alloc,
         "labels",
-        "Print a digest of each label too, so that the delta has each label that differs",
+        "Add a digest of each label, so that the delta also has labels that differ under one \
+            timestamp",
     )
 }
 
-/// The number of a refusal.
+/// The number of an error.
 pub(crate) fn number<'a>(alloc: Global, numbers: &'a [&'a str]) -> Arg<'a>
     ensures { IsArgument (number_rule numbers.entry) result }
 {
     Arg::new(alloc, "number")
         .value_name("NUMBER")
-        .help("The number of a refusal")
+        .help("The number of an error")
         .required(true)
         .value_parser(numbers)
 }
@@ -195,7 +211,7 @@ pub(crate) fn source<'a>(alloc: Global) -> Arg<'a>
         alloc,
         "source",
         "LANG",
-        "The language that was translated from, or @none",
+        "The language that the labels were translated from, or @none",
     )
 }
 
@@ -269,8 +285,8 @@ fn default<'a>(alloc: Global) -> Arg<'a>
         .long("default")
         .value_name("LANG")
         .help(
-            "The language to answer where nothing fits, if it is available and the ranges do not \
-                refuse it",
+            "The language to answer if nothing matches, provided it is available and the ranges \
+                do not exclude it",
         )
 }
 

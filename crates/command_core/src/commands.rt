@@ -31,7 +31,7 @@ pub(crate) fn with_sites<'a>(
         alloc,
         "status",
         "lexicat status < SITE",
-        "Prints how many cells and labels a site has, and its last stamp",
+        "Prints how many cells and labels a site has, and its last timestamp",
         "Reads a site document.\nExample: lexicat status < two.json",
     );
     with_command(program, Ok(status))
@@ -62,9 +62,9 @@ pub(crate) fn with_labels<'a>(
         "changes",
         "cat SITE LATER | lexicat changes",
         "Prints how the cells of two sites differ, such as one before and after an update",
-        "Reads a site document as it was, then one as it is now, and prints 'changes N' and a \
-            line [ID,LANGUAGE,BEFORE,AFTER] for each key at which they differ. What a site lacks \
-            is null.\n\
+        "Reads a site document as it was, then one as it is now. Prints 'changes N' and a line \
+            [ID,LANGUAGE,BEFORE,AFTER] for each cell that differs, with null for a site that has \
+            no such cell.\n\
             Document 1 of the input ends at the first LF, and all after it is document 2.\n\
             Example: cat three.json four.json | lexicat changes",
     );
@@ -85,7 +85,7 @@ pub(crate) fn with_questions<'a>(
 }
 
 /// The program with the commands by which sites exchange their cells, `replay`, which runs a script
-/// of them, and `explain`, which says what a refusal means.
+/// of them, and `explain`, which says what an error means.
 pub(crate) fn with_exchange<'a>(
     alloc: Global,
     program: Command<'a>,
@@ -143,7 +143,7 @@ fn new<'a>(alloc: Global) -> Result<Command<'a>, AllocError>
     described(
         alloc,
         "new",
-        "Prints the document of a new site, which is empty",
+        "Prints the document of a new, empty site",
         "The name 1 makes a new site, and not the old site 1, whose name is 0000000001.\n\
             Example: lexicat new --site paris > paris.json",
     )
@@ -158,7 +158,7 @@ fn put<'a>(alloc: Global) -> Result<Command<'a>, AllocError>
         alloc,
         "put",
         "lexicat put --now <N> --id <ID> --lang <LANG> <TEXT>... < SITE",
-        "Puts a label into a site, with a new stamp",
+        "Puts a label into a site, under a new timestamp",
         "Reads a site document and prints the new one. Write -- before a TEXT that begins with \
             \"-\".\n\
             Example: lexicat put --now 5 --id greeting --lang en Hello < paris.json > one.json",
@@ -179,9 +179,9 @@ fn delete<'a>(alloc: Global) -> Result<Command<'a>, AllocError>
         alloc,
         "delete",
         "lexicat delete --now <N> --id <ID> --lang <LANG> < SITE",
-        "Deletes a label of a site, with a new stamp",
-        "Reads a site document and prints the new one. The deletion is kept, so that no older \
-            label comes back.\n\
+        "Deletes a label of a site, under a new timestamp",
+        "Reads a site document and prints the new one. The cell is kept as a tombstone, so that \
+            no older label comes back.\n\
             Example: lexicat delete --now 6 --id greeting --lang en < one.json > two.json",
     );
     arguments::with_edit(alloc, command)
@@ -195,7 +195,7 @@ fn import<'a>(alloc: Global) -> Result<Command<'a>, AllocError>
         alloc,
         "import",
         "cat SITE MAPS | lexicat import --now <N>",
-        "Puts the labels of language maps into a site, each with a new stamp",
+        "Puts the labels of language maps into a site, each under a new timestamp",
         "Reads a site document, then language maps, and prints the new site.\n\
             Document 1 of the input ends at the first LF, and all after it is document 2.\n\
             Example: (cat one.json; echo '{\"greeting\":{\"fr\":\"Bonjour\"}}') | lexicat import \
@@ -214,8 +214,8 @@ fn update<'a>(alloc: Global) -> Result<Command<'a>, AllocError>
         "cat SITE OLD NEW | lexicat update --now <N>",
         "Applies what an editor changed in language maps, and nothing else",
         "Reads a site document, then language maps as they were before the editor worked on them, \
-            then as they are now, and prints the new site. A label that the new ones leave out is \
-            deleted. Of an id that is written twice only the last counts.\n\
+            then as they are now, and prints the new site. A label that the new maps leave out is \
+            deleted. If an id is written twice, only the last counts.\n\
             Documents 1 and 2 of the input end at the first and the second LF, and all after that \
             is document 3.\n\
             Example: (cat three.json; echo '{\"greeting\":{\"fr\":\"Bonjour\"}}'; echo \
@@ -232,9 +232,9 @@ fn missing<'a>(alloc: Global) -> Result<Command<'a>, AllocError>
         alloc,
         "missing",
         "lexicat missing --lang <LANG> < SITE",
-        "Prints the messages that have labels but none of just this language, as language maps",
-        "Reads a site document. A deleted label is missing too, and fr-ca is not fr. A translator \
-            adds the members that are missing; update puts them into the site.\n\
+        "Prints the messages that have labels but none in this very language, as language maps",
+        "Reads a site document. A deleted label is missing too, and fr-ca does not count as fr. A \
+            translator adds the members that are missing; update puts them into the site.\n\
             Example: lexicat missing --lang de < three.json",
     )
     .arg(arguments::lang(alloc))
@@ -248,17 +248,17 @@ fn outdated<'a>(alloc: Global) -> Result<Command<'a>, AllocError>
         alloc,
         "outdated",
         "lexicat outdated --lang <LANG> --source <LANG> < SITE",
-        "Prints the messages whose label of one language is older than that of another, as \
+        "Prints the messages whose label in one language is older than that in another, as \
             language maps",
-        "Reads a site document. The times of the two cells alone are compared; a message counts \
-            where it has a label of both languages, of just these.\n\
+        "Reads a site document. Only the times of the two cells are compared. A message counts if \
+            it has a label in both of these very languages.\n\
             Example: lexicat outdated --lang en --source fr < three.json",
     )
     .arg(arguments::lang(alloc))?
     .arg(arguments::source(alloc))
 }
 
-/// `filter --id ID [--scheme SCHEME] [--lenient] FIELD`
+/// `filter --id ID [--offer FIELD] [--scheme SCHEME] [--lenient] FIELD`
 fn filter<'a>(alloc: Global, schemes: &'a [&'a str]) -> Result<Command<'a>, AllocError>
     ensures { IfOk result (IsCommand (filter_app schemes.entry)) }
 {
@@ -271,12 +271,13 @@ fn filter<'a>(alloc: Global, schemes: &'a [&'a str]) -> Result<Command<'a>, Allo
             Example: lexicat filter --id greeting \"fr;q=0.5, en\" < three.json",
     )
     .arg(arguments::id(alloc))?
+    .arg(arguments::offer(alloc))?
     .arg(arguments::scheme(alloc, schemes))?
     .arg(arguments::lenient(alloc))?
     .arg(arguments::field(alloc, "field", "FIELD"))
 }
 
-/// `lookup --id ID [--scheme SCHEME] [--lenient] [--widen] [--default LANG] FIELD`
+/// `lookup --id ID [--offer FIELD] [--scheme SCHEME] [--lenient] [--widen] [--default LANG] FIELD`
 fn lookup<'a>(alloc: Global, schemes: &'a [&'a str]) -> Result<Command<'a>, AllocError>
     ensures { IfOk result (IsCommand (lookup_app schemes.entry)) }
 {
@@ -288,11 +289,12 @@ fn lookup<'a>(alloc: Global, schemes: &'a [&'a str]) -> Result<Command<'a>, Allo
         "Reads a site document.\n\
             Example: lexicat lookup --id greeting --default en \"da, fr;q=0.5\" < three.json",
     )
-    .arg(arguments::id(alloc))?;
+    .arg(arguments::id(alloc))?
+    .arg(arguments::offer(alloc))?;
     arguments::with_preferences(alloc, command, schemes, "field", "FIELD")
 }
 
-/// `bundle [--scheme SCHEME] [--lenient] [--widen] [--default LANG] FIELD`
+/// `bundle [--offer FIELD] [--scheme SCHEME] [--lenient] [--widen] [--default LANG] FIELD`
 fn bundle<'a>(alloc: Global, schemes: &'a [&'a str]) -> Result<Command<'a>, AllocError>
     ensures { IfOk result (IsCommand (bundle_app schemes.entry)) }
 {
@@ -301,10 +303,11 @@ fn bundle<'a>(alloc: Global, schemes: &'a [&'a str]) -> Result<Command<'a>, Allo
         "bundle",
         "lexicat bundle [OPTIONS] <FIELD> < SITE",
         "Prints for each message the one label that a reader gets, as language maps",
-        "Reads a site document. Of each message it is the label that lookup answers; a message \
-            for which lookup answers nothing is left out.\n\
+        "Reads a site document. The label is the answer of lookup. A message for which lookup \
+            answers nothing is left out.\n\
             Example: lexicat bundle --default en \"fr-CA, de;q=0.5\" < three.json",
-    );
+    )
+    .arg(arguments::offer(alloc))?;
     arguments::with_preferences(alloc, command, schemes, "field", "FIELD")
 }
 
@@ -316,10 +319,11 @@ fn summary<'a>(alloc: Global) -> Result<Command<'a>, AllocError>
         alloc,
         "summary",
         "lexicat summary [--labels] < SITE",
-        "Prints the stamps of a site's cells, by which another site finds what this one lacks",
+        "Prints the timestamps of a site's cells, from which another site finds what this one \
+            lacks",
         "Reads a site document. With --labels it prints a digest of each label too. The delta for \
-            such a summary also has each cell whose label differs under the same stamp, so that \
-            taking it refuses what a merge refuses.\n\
+            such a summary also has each cell whose label differs under the same timestamp, so \
+            that take reports a duplicate timestamp as merge does.\n\
             Example: lexicat new --site tokyo | lexicat summary > summary.json",
     )
     .arg(arguments::labels(alloc))
@@ -333,10 +337,10 @@ fn take<'a>(alloc: Global) -> Result<Command<'a>, AllocError>
         alloc,
         "take",
         "cat SITE DELTA | lexicat take [OPTIONS]",
-        "Joins a delta into the site that it is for",
+        "Applies a delta to the site that it is for",
         "Reads a site document, then a delta. With --not-after a delta with a later time is \
-            refused as a whole; the site's own times do not count. With --check-own so is one with \
-            an edit that the site made and lacks.\n\
+            refused as a whole; the site's own times do not count. With --check-own a delta is \
+            refused if it has an edit that the site made and lacks.\n\
             Document 1 of the input ends at the first LF, and all after it is document 2.\n\
             Example: (lexicat new --site tokyo; cat delta.json) | lexicat take > tokyo.json",
     );
@@ -353,8 +357,8 @@ fn sync<'a>(alloc: Global) -> Result<Command<'a>, AllocError>
         "cat SITE OTHER | lexicat sync [OPTIONS]",
         "Merges two sites with one another, so that both have the same cells",
         "Reads two site documents and prints both, one line each, in the order read. With \
-            --not-after a later time in either of them refuses the whole. With --check-own so does \
-            an edit in either of them that the other made and lacks.\n\
+            --not-after both are refused if either has a later time. With --check-own both are \
+            refused if either has an edit that the other made and lacks.\n\
             Document 1 of the input ends at the first LF, and all after it is document 2.\n\
             Example: cat three.json tokyo.json | lexicat sync > both.json",
     );
@@ -370,10 +374,10 @@ fn merge<'a>(alloc: Global) -> Result<Command<'a>, AllocError>
         "merge",
         "cat SITE OTHER.. | lexicat merge [OPTIONS]",
         "Merges any number of sites into the first of them",
-        "Reads one site document or more, each on one line, and prints the first after it took the \
-            cells of all others in their order. With --not-after a later time in another than the \
-            first refuses the whole. With --check-own so does an edit in another than the first \
-            that the first made and lacks.\n\
+        "Reads one site document or more, each on one line. Prints the first after the cells of \
+            the others were applied to it, in their order. With --not-after all are refused if any \
+            but the first has a later time. With --check-own all are refused if any but the first \
+            has an edit that the first made and lacks.\n\
             Document 1 is the first line of the input, document 2 the second, and so on; a LF at \
             the end begins no further one.\n\
             Example: cat three.json both.json | lexicat merge > merged.json",
@@ -388,8 +392,8 @@ fn explain<'a>(alloc: Global, numbers: &'a [&'a str]) -> Result<Command<'a>, All
     described(
         alloc,
         "explain",
-        "Prints what a refusal means, what causes it, and what to do",
-        "A refusal is a line 'refused N: TEXT'; standard input is not read.\n\
+        "Prints what an error means, what causes it, and what to do",
+        "An error is a line 'refused N: TEXT', and NUMBER is its N. Standard input is not read.\n\
             Example: lexicat explain 21",
     )
     .arg(arguments::number(alloc, numbers))

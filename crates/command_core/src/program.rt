@@ -114,10 +114,10 @@ fn bare<'a>(alloc: Global) -> Result<Command<'a>, AllocError>
                 wants",
         )
         .after_help(
-            "It reads standard input and writes standard output. 'lexicat help COMMAND' has an \
-                example of each command; they run one after another, in the order above.\n\
-                Of a line 'refused N: TEXT', 'lexicat explain N' says what causes it and what to \
-                do.",
+            "lexicat reads standard input and writes standard output. 'lexicat help COMMAND' has \
+                an example of each command. The examples run one after another, in the order \
+                above.\n\
+                'lexicat explain N' says what causes an error 'refused N: TEXT', and what to do.",
         )
         .version(VERSION)
         .no_binary_name(true)

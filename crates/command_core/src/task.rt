@@ -2,6 +2,7 @@
 ghost use Rattle.std.specs.Prelude.{◌≡◌, false, map, option_map};
 ghost use Rattle.std.specs.Option.{option_copied};
 ghost use Rattle.clap.specs.Words.{all_of, first_of, found_of, rows_of, subcommand_rows_of};
+ghost use Rattle.front_core.specs.Offering.{offers_of};
 ghost use Rattle.front_core.specs.Preferences.{field_text};
 ghost use Rattle.command_core.specs.TaskActs.{ActsBy, Treats};
 ghost use Rattle.command_core.specs.TaskEditWords.{edit_words};
@@ -10,7 +11,7 @@ ghost use Rattle.command_core.specs.OutputStreams.{reads, streams, writes};
 ghost use Rattle.command_core.specs.TaskWords.{Edit, GivesNumber, GivesNumbers, GivesTask};
 ghost use Rattle.command_core.specs.TaskWords.{Replay, checks_words, own_edits_of, pick_task};
 ghost use Rattle.command_core.specs.TaskWords.{shows_of};
-ghost use Rattle.command_core.specs.TaskValues.{preference_values, task_values};
+ghost use Rattle.command_core.specs.TaskValues.{preference_values, reader_values, task_values};
 
 use crate::documents::DocumentTask;
 use crate::edits::EditValues;
@@ -22,8 +23,8 @@ use crate::{documents, edits, explaining, sites, status};
 use clap::ArgMatches;
 use docs_core::{Checks, OwnEdits, Shows, Sink, Source};
 use front_core::words::{filter_answer, pick_answer};
-use front_core::{Field, Filter, FrontFault, Lookup, Missing, Outdated, Preferences, View};
-use nego_core::{Malformed, Scheme, Widening};
+use front_core::{Field, Filter, FrontFault, Lookup, Missing, Offering, Outdated, Reader, View};
+use nego_core::{Malformed, Offer, Scheme, Widening};
 use std::alloc::Global;
 
 /// Does what the matches say, and gives the status: what is written is the text that the call of
@@ -71,9 +72,9 @@ enum Task<'m, 'a> {
     Missing(&'a [u8]),
     Outdated(&'a [u8], &'a [u8]),
     Changes,
-    Filter(&'a [u8], Field<'a>),
-    Lookup(&'a [u8], PreferenceValues<'a>),
-    Bundle(PreferenceValues<'a>),
+    Filter(&'a [u8], Offering<'a>, Field<'a>),
+    Lookup(&'a [u8], ReaderValues<'a>),
+    Bundle(ReaderValues<'a>),
     Sync(Checks),
     Replay,
     Explain(Explained),
@@ -86,6 +87,15 @@ struct PreferenceValues<'a> {
     field: Field<'a>,
     /// The language of `--default`.
     default: Option<&'a [u8]>,
+}
+
+/// A reader of a site.
+#[derive(Clone, Copy)]
+struct ReaderValues<'a> {
+    /// What is offered, by `--offer`.
+    offering: Offering<'a>,
+    /// What it prefers of that.
+    preferences: PreferenceValues<'a>,
 }
 
 /// The numbers among the arguments.
@@ -129,12 +139,13 @@ fn task_of<'m, 'a>(name: &str, matches: &'m ArgMatches<'a>) -> Option<Task<'m, '
             text_bytes(matches, "source")?,
         )),
         "changes" => Some(Task::Changes),
-        "filter" => Some(Task::Filter(text_bytes(matches, "id")?, field_of(matches, "field")?)),
-        "lookup" => Some(Task::Lookup(
+        "filter" => Some(Task::Filter(
             text_bytes(matches, "id")?,
-            preferences_of(matches, "field")?,
+            offering_of(matches),
+            field_of(matches, "field")?,
         )),
-        "bundle" => Some(Task::Bundle(preferences_of(matches, "field")?)),
+        "lookup" => Some(Task::Lookup(text_bytes(matches, "id")?, reader_of(matches)?)),
+        "bundle" => Some(Task::Bundle(reader_of(matches)?)),
         "summary" => Some(Task::View(View::Summary(shows_of(is_given(matches, "labels"))))),
         "delta" => Some(Task::Document(DocumentTask::Delta)),
         "take" => Some(Task::Document(DocumentTask::Take(checks_of(numbers.not_after, matches)))),
@@ -242,6 +253,29 @@ fn preferences_of<'a>(matches: &ArgMatches<'a>, id: &str) -> Option<PreferenceVa
     let field = field_of(matches, id)?;
     let default = text_bytes(matches, "default");
     Some(PreferenceValues { field, default })
+}
+
+/// The reader whose field is the argument `field`.
+fn reader_of<'a>(matches: &ArgMatches<'a>) -> Option<ReaderValues<'a>>
+    ensures { option_map reader_values result
+        ≡ spec.reader_words (rows_of (found_of matches.now)) }
+{
+    let preferences = preferences_of(matches, "field")?;
+    let offering = offering_of(matches);
+    Some(ReaderValues {
+        offering,
+        preferences,
+    })
+}
+
+/// What is offered, by `--offer`; all languages where it is not given.
+fn offering_of<'a>(matches: &ArgMatches<'a>) -> Offering<'a>
+    ensures { offers_of result ≡ spec.offer_words (rows_of (found_of matches.now)) }
+{
+    match text_bytes(matches, "offer") {
+        None => Offering::Given(Offer::All),
+        Some(text) => Offering::Field(text),
+    }
 }
 
 /// The bytes of an argument's first text.
@@ -359,13 +393,28 @@ fn perform<R: Source, W: Sink, F: Sink>(
         Task::Missing(lang) => ask(alloc, Missing::read(alloc, lang), reader),
         Task::Outdated(lang, source) => ask(alloc, Outdated::read(alloc, lang, source), reader),
         Task::Changes => documents::changes(alloc, reader),
-        Task::Filter(id, field) => ask(alloc, Filter::read(alloc, id, field), reader),
+        Task::Filter(id, offering, field) => {
+            ask(alloc, Filter::read(alloc, id, offering, field), reader)
+        }
         Task::Lookup(id, values) => {
-            let asked = Lookup::read(alloc, id, values.field, values.default);
+            let preferences = values.preferences;
+            let asked = Lookup::read(
+                alloc,
+                id,
+                values.offering,
+                preferences.field,
+                preferences.default,
+            );
             ask(alloc, asked, reader)
         }
         Task::Bundle(values) => {
-            let asked = Preferences::read(alloc, values.field, values.default);
+            let preferences = values.preferences;
+            let asked = Reader::read(
+                alloc,
+                values.offering,
+                preferences.field,
+                preferences.default,
+            );
             ask(alloc, asked, reader)
         }
         Task::Sync(checks) => return sites::sync(alloc, checks, reader, writer, faults),

@@ -4,6 +4,7 @@ use Rattle.std.specs.Prelude.{Err, IfErr, MatchResult, Ok, OnErr, OnOk, Result, 
 use Rattle.cata_core.specs.Site.{SiteState}
 use Rattle.std.specs.Prelude.{ℕ}
 use Rattle.cell_core.specs.declared.fault.CellFault.TheVariants as cell
+use Rattle.front_core.specs.Offering.{Offers}
 use Rattle.front_core.specs.Ask.{AnswersText, IsAnswer, IsLookup, IsLookupText, IsNoMemory}
 use Rattle.front_core.specs.Ask.{RefusesAnswer, RefusesLookup}
 use Rattle.front_core.specs.declared.ask.Lookup.{Lookup}
@@ -148,16 +149,18 @@ written_as Reads Refuses Answers asked site (Ok answer) reads is = (asked, reads
 written_as Reads Refuses Answers asked site (Err fault) reads none = inr ((asked, reads), none)
 
 -- The text that is reported is that of the label which the arguments find.
-pub text_as : (site : SiteState) (asked : Lookup) (id : Text) (read : FieldText)
-    (default : Option Text) (place : ℕ) (old new : Text) (told : Told) (status : ℤ)
-    → IsLookup id read default asked
+pub text_as : (site : SiteState) (asked : Lookup) (id : Text) (offers : Offers)
+    (read : FieldText) (default : Option Text) (place : ℕ) (old new : Text) (told : Told)
+    (status : ℤ) → IsLookup id offers read default asked
     → ReportsEither (AnswersText site.cells asked place) IsNoMemory ReportsLabelText old new told
     status
-    → ReportsEither (IsLookupText site.cells id read default place)
-    (RefusesLookup id read default) ReportsLabelText old new told status
-text_as site asked id read default place old new told status reads (inl (text, is, ends)) =
+    → ReportsEither (IsLookupText site.cells id offers read default place)
+    (RefusesLookup id offers read default) ReportsLabelText old new told status
+text_as site asked id offers read default place old new told status reads
+    (inl (text, is, ends)) =
     inl (text, (asked, reads, is), ends)
-text_as site asked id read default place old new told status reads (inr (fault, none, ends)) =
+text_as site asked id offers read default place old new told status reads
+    (inr (fault, none, ends)) =
     inr (fault, inl (cell.NoMemory, reads.0, none), ends)
 
 -- Whatever a question comes to is reported.

@@ -12,7 +12,9 @@ use Rattle.front_core.specs.OpenSite.{LeavesTake, OrNoMemory, RefusesDelete, Ref
 use Rattle.front_core.specs.OpenSite.{RefusesPutInto, RefusesTake, IsNewSite, RefusesNewSite}
 use Rattle.front_core.specs.OpenSite.{AreUpdated, IsImported, RefusesImport, RefusesUpdates}
 use Rattle.front_core.specs.Exchange.{IsDelta, RefusesDelta, ShowsView}
-use Rattle.front_core.specs.Preferences.{FieldText, ArePreferences, RefusesPreferences}
+use Rattle.front_core.specs.Offering.{Offers}
+use Rattle.front_core.specs.Preferences.{FieldText}
+use Rattle.front_core.specs.Reader.{IsReader, RefusesReader}
 use Rattle.docs_core.specs.Lines.{lines_of}
 use Rattle.front_core.specs.TagPick.{IsPickedTag, RefusesPick}
 use Rattle.front_core.specs.Refusal.{refusal_of}
@@ -72,33 +74,33 @@ ReportsQuestion site Reads Refuses Answers =
     ReportsAsked site (IsAnswer Reads Answers) (RefusesAnswer Reads Refuses)
 
 -- the line of a lookup in the handle's site
-abbrev pub ReportsLookup : Option SiteState → ℕ → Text → Text → Text → Ends
-ReportsLookup site flags id field default =
+abbrev pub ReportsLookup : Option SiteState → Offers → ℕ → Text → Text → Text → Ends
+ReportsLookup site offers flags id field default =
     ReportsField (lookup_field_of flags field)
-    (λ read. ReportsQuestion site (IsLookup id read (default_of default))
-    (RefusesLookup id read (default_of default)) (λ asked s. AnswersLookup s.cells asked))
+    (λ read. ReportsQuestion site (IsLookup id offers read (default_of default))
+    (RefusesLookup id offers read (default_of default)) (λ asked s. AnswersLookup s.cells asked))
 
 -- the text at a place of the label that a lookup in the handle's site finds
-abbrev pub ReportsLookupText : Option SiteState → ℕ → Text → Text → Text → ℕ → Ends
-ReportsLookupText site flags id field default place =
+abbrev pub ReportsLookupText : Option SiteState → Offers → ℕ → Text → Text → Text → ℕ → Ends
+ReportsLookupText site offers flags id field default place =
     ReportsField (lookup_field_of flags field)
     (λ read. ReportsOpen site
-    (λ s. ReportsEither (IsLookupText s.cells id read (default_of default) place)
-    (RefusesLookup id read (default_of default)) ReportsLabelText))
+    (λ s. ReportsEither (IsLookupText s.cells id offers read (default_of default) place)
+    (RefusesLookup id offers read (default_of default)) ReportsLabelText))
 
 -- the lines of a filter of the handle's site
-abbrev pub ReportsFilter : Option SiteState → ℕ → Text → Text → Ends
-ReportsFilter site flags id field =
+abbrev pub ReportsFilter : Option SiteState → Offers → ℕ → Text → Text → Ends
+ReportsFilter site offers flags id field =
     ReportsField (field_of flags field)
-    (λ read. ReportsQuestion site (IsFilter id read) (RefusesFilter id read)
+    (λ read. ReportsQuestion site (IsFilter id offers read) (RefusesFilter id offers read)
     (λ asked s. AnswersFilter s.cells asked))
 
 -- the language maps of what a reader finds in the handle's site
-abbrev pub ReportsBundle : Option SiteState → ℕ → Text → Text → Ends
-ReportsBundle site flags field default =
+abbrev pub ReportsBundle : Option SiteState → Offers → ℕ → Text → Text → Ends
+ReportsBundle site offers flags field default =
     ReportsField (lookup_field_of flags field)
-    (λ read. ReportsQuestion site (ArePreferences read (default_of default))
-    (RefusesPreferences read (default_of default)) (λ asked s. AnswersBundle s.cells asked))
+    (λ read. ReportsQuestion site (IsReader offers read (default_of default))
+    (RefusesReader offers read (default_of default)) (λ asked s. AnswersBundle s.cells asked))
 
 -- the messages of the handle's site that lack the language
 abbrev pub ReportsMissing : Option SiteState → Text → Ends
@@ -154,17 +156,17 @@ ReportsWritten text As old new told status = (site : SiteState) → IsCompactSit
     → As (Some site) old new told status
 
 -- whatever the text is, the arguments of a lookup are refused as over a site, or are a question
-abbrev pub ReportsReadLookup : {A : Type 0} → ℕ → Text → Text → Text → (A → Ends) → Ends
-ReportsReadLookup flags id field default As =
+abbrev pub ReportsReadLookup : {A : Type 0} → Offers → ℕ → Text → Text → Text → (A → Ends) → Ends
+ReportsReadLookup offers flags id field default As =
     ReportsField (lookup_field_of flags field)
-    (λ read. ReportsRead (IsLookup id read (default_of default))
-    (RefusesLookup id read (default_of default)) As)
+    (λ read. ReportsRead (IsLookup id offers read (default_of default))
+    (RefusesLookup id offers read (default_of default)) As)
 
 -- the same of a filter
-abbrev pub ReportsReadFilter : ℕ → Text → Text → Ends
-ReportsReadFilter flags id field =
+abbrev pub ReportsReadFilter : Offers → ℕ → Text → Text → Ends
+ReportsReadFilter offers flags id field =
     ReportsField (field_of flags field)
-    (λ read. ReportsRead (IsFilter id read) (RefusesFilter id read) ReportsAnswer)
+    (λ read. ReportsRead (IsFilter id offers read) (RefusesFilter id offers read) ReportsAnswer)
 
 -- ---- handles
 

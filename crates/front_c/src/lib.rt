@@ -5,7 +5,7 @@
 //! - [`sw_site_open`] reads a site into a handle, [`sw_site_share`] makes one more handle of it,
 //!   and [`sw_site_free`] releases it.
 //! - [`sw_site_lookup`], [`sw_site_text`], [`sw_site_filter`] and [`sw_site_bundle`] put questions
-//!   to a site.
+//!   to a site, of the labels that are offered.
 //! - [`sw_text_lookup`], [`sw_text_text`] and [`sw_text_filter`] put them to the document of a site
 //!   where it lies.
 //! - [`sw_site_new`] makes a site; [`sw_site_put`], [`sw_site_delete`], [`sw_site_import`] and
@@ -20,6 +20,10 @@
 //! first byte, and the rest of it is as it was. Where the buffer is too small, and where there is
 //! no answer or a refusal, all of it is as it was; the status and the reported length are as with
 //! room. No export has a `requires`: the contract of each holds for whatever it is passed.
+//!
+//! What a question of a site is offered is a field too, which is read strictly, as an
+//! Accept-Language field. Without bytes it stands for `*, x;q=0`: all languages but those of
+//! private use.
 //!
 //! The flags of a question are 1, by which its field is a list of extended ranges (RFC 4647 section
 //! 2.2), 2, by which malformed elements of the field are skipped, and, for a lookup alone, 4, by
@@ -41,6 +45,7 @@ ghost use Rattle.front_c.specs.Calls.{ReportsSummary, ReportsTagFilter};
 ghost use Rattle.front_c.specs.Calls.{ReportsTaken, ReportsUpdated, ReportsView, ReportsWritten};
 ghost use Rattle.front_c.specs.Reporting.{ReportsAnswer, ReportsLabelText};
 ghost use Rattle.front_c.specs.Handles.{site_of};
+ghost use Rattle.front_c.specs.Question.{offer_of};
 ghost use Rattle.front_core.specs.declared.exchange.View.TheVariants.{Document, Export, Status};
 
 mod handles;
@@ -49,13 +54,13 @@ mod reporting;
 mod status;
 mod told;
 
-use crate::question::{checks_of, default_of, field_of, lookup_field_of, shows_of};
+use crate::question::{checks_of, default_of, field_of, lookup_field_of, offering_of, shows_of};
 use crate::reporting::{
     ask, explained, hold, hold_share, report, report_edit, report_label_text, report_nothing,
     report_pick, report_refusal, report_text, report_text_in, report_usage,
 };
 use front_core::{
-    Filter, Lookup, Missing, OpenSite, Outdated, Preferences, VERSION_NUMBER, View, changes, delta,
+    Filter, Lookup, Missing, OpenSite, Outdated, Reader, VERSION_NUMBER, View, changes, delta,
     filter_tags,
 };
 pub use handles::site_handle::{SiteBlock, SiteHandle};
@@ -445,13 +450,14 @@ pub extern "C" fn sw_refusal_text(number: u32, out: &mut [u8], told: &mut Told) 
 }
 
 /// Looks up the label of a message for a field (RFC 4647 section 3.4), or that of the default, and
-/// answers the line of the command `lookup`.
+/// answers the line of the command `lookup`, of the labels that are offered.
 ///
-/// Refused are the id (10), the default (1 to 4), then the field (8, 9).
+/// Refused are the id (10), the default (1 to 4), the offer, then the field (each 8, 9).
 #[unsafe(no_mangle)]
 pub extern "C" fn sw_site_lookup(
     alloc: Global,
     site: &mut SiteHandle,
+    offer: &[u8],
     flags: u32,
     id: &[u8],
     field: &[u8],
@@ -460,12 +466,12 @@ pub extern "C" fn sw_site_lookup(
     told: &mut Told,
 ) -> i32
     ensures site { site.new.value ≡ site.old.value }
-    ensures answer { ReportsLookup (site_of site.old) flags id.now field.now default.now out.old
-        out.new told.new result }
+    ensures answer { ReportsLookup (site_of site.old) (offer_of offer.now) flags id.now field.now
+        default.now out.old out.new told.new result }
 {
     match lookup_field_of(flags, field) {
         Some(field) => {
-            let asked = Lookup::read(alloc, id, field, default_of(default));
+            let asked = Lookup::read(alloc, id, offering_of(offer), field, default_of(default));
             ask(alloc, site, asked, out, told)
         }
         None => report_usage(told),
@@ -480,6 +486,7 @@ pub extern "C" fn sw_site_lookup(
 pub extern "C" fn sw_site_text(
     alloc: Global,
     site: &mut SiteHandle,
+    offer: &[u8],
     flags: u32,
     id: &[u8],
     field: &[u8],
@@ -489,8 +496,8 @@ pub extern "C" fn sw_site_text(
     told: &mut Told,
 ) -> i32
     ensures site { site.new.value ≡ site.old.value }
-    ensures answer { ReportsLookupText (site_of site.old) flags id.now field.now default.now place
-        out.old out.new told.new result }
+    ensures answer { ReportsLookupText (site_of site.old) (offer_of offer.now) flags id.now
+        field.now default.now place out.old out.new told.new result }
 {
     let Some(field) = lookup_field_of(flags, field) else {
         return report_usage(told);
@@ -498,7 +505,7 @@ pub extern "C" fn sw_site_text(
     let Some(held) = site.open() else {
         return report_usage(told);
     };
-    match Lookup::read(alloc, id, field, default_of(default)) {
+    match Lookup::read(alloc, id, offering_of(offer), field, default_of(default)) {
         Ok(asked) => report_label_text(asked.text(held.site(), place), out, told),
         Err(fault) => report_refusal(&fault, told),
     }
@@ -507,11 +514,12 @@ pub extern "C" fn sw_site_text(
 /// Finds the labels of a message whose languages fit a field (RFC 4647, sections 3.3.1 and 3.3.2),
 /// and answers the lines of the command `filter`.
 ///
-/// Refused are the id (10), then the field (8, 9).
+/// Refused are the id (10), the offer, then the field (each 8, 9).
 #[unsafe(no_mangle)]
 pub extern "C" fn sw_site_filter(
     alloc: Global,
     site: &mut SiteHandle,
+    offer: &[u8],
     flags: u32,
     id: &[u8],
     field: &[u8],
@@ -519,11 +527,17 @@ pub extern "C" fn sw_site_filter(
     told: &mut Told,
 ) -> i32
     ensures site { site.new.value ≡ site.old.value }
-    ensures answer { ReportsFilter (site_of site.old) flags id.now field.now out.old out.new
-        told.new result }
+    ensures answer { ReportsFilter (site_of site.old) (offer_of offer.now) flags id.now field.now
+        out.old out.new told.new result }
 {
     match field_of(flags, field) {
-        Some(field) => ask(alloc, site, Filter::read(alloc, id, field), out, told),
+        Some(field) => ask(
+            alloc,
+            site,
+            Filter::read(alloc, id, offering_of(offer), field),
+            out,
+            told,
+        ),
         None => report_usage(told),
     }
 }
@@ -531,11 +545,12 @@ pub extern "C" fn sw_site_filter(
 /// Looks up the one label of each message for a field, or that of the default, and answers the
 /// language maps of the command `bundle`.
 ///
-/// Refused are the default (1 to 4), then the field (8, 9).
+/// Refused are the default (1 to 4), the offer, then the field (each 8, 9).
 #[unsafe(no_mangle)]
 pub extern "C" fn sw_site_bundle(
     alloc: Global,
     site: &mut SiteHandle,
+    offer: &[u8],
     flags: u32,
     field: &[u8],
     default: &[u8],
@@ -543,12 +558,12 @@ pub extern "C" fn sw_site_bundle(
     told: &mut Told,
 ) -> i32
     ensures site { site.new.value ≡ site.old.value }
-    ensures answer { ReportsBundle (site_of site.old) flags field.now default.now out.old out.new
-        told.new result }
+    ensures answer { ReportsBundle (site_of site.old) (offer_of offer.now) flags field.now
+        default.now out.old out.new told.new result }
 {
     match lookup_field_of(flags, field) {
         Some(field) => {
-            let asked = Preferences::read(alloc, field, default_of(default));
+            let asked = Reader::read(alloc, offering_of(offer), field, default_of(default));
             ask(alloc, site, asked, out, told)
         }
         None => report_usage(told),
@@ -566,6 +581,7 @@ pub extern "C" fn sw_site_bundle(
 pub extern "C" fn sw_text_lookup(
     alloc: Global,
     text: &[u8],
+    offer: &[u8],
     flags: u32,
     id: &[u8],
     field: &[u8],
@@ -573,15 +589,15 @@ pub extern "C" fn sw_text_lookup(
     out: &mut [u8],
     told: &mut Told,
 ) -> i32
-    ensures written { ReportsWritten text.now (λ site. ReportsLookup site flags id.now field.now
-        default.now) out.old out.new told.new result }
-    ensures read { ReportsReadLookup flags id.now field.now default.now ReportsAnswer out.old
-        out.new told.new result }
+    ensures written { ReportsWritten text.now (λ site. ReportsLookup site (offer_of offer.now) flags
+        id.now field.now default.now) out.old out.new told.new result }
+    ensures read { ReportsReadLookup (offer_of offer.now) flags id.now field.now default.now
+        ReportsAnswer out.old out.new told.new result }
 {
     let Some(field) = lookup_field_of(flags, field) else {
         return report_usage(told);
     };
-    match Lookup::read(alloc, id, field, default_of(default)) {
+    match Lookup::read(alloc, id, offering_of(offer), field, default_of(default)) {
         Ok(lookup) => report(lookup.answer_in(alloc, text), out, told),
         Err(fault) => report_refusal(&fault, told),
     }
@@ -594,6 +610,7 @@ pub extern "C" fn sw_text_lookup(
 pub extern "C" fn sw_text_text(
     alloc: Global,
     text: &[u8],
+    offer: &[u8],
     flags: u32,
     id: &[u8],
     field: &[u8],
@@ -602,15 +619,16 @@ pub extern "C" fn sw_text_text(
     out: &mut [u8],
     told: &mut Told,
 ) -> i32
-    ensures written { ReportsWritten text.now (λ site. ReportsLookupText site flags id.now field.now
-        default.now place) out.old out.new told.new result }
-    ensures read { ReportsReadLookup flags id.now field.now default.now ReportsLabelText out.old
-        out.new told.new result }
+    ensures written { ReportsWritten text.now (λ site. ReportsLookupText site
+        (offer_of offer.now) flags id.now field.now default.now place) out.old out.new told.new
+        result }
+    ensures read { ReportsReadLookup (offer_of offer.now) flags id.now field.now default.now
+        ReportsLabelText out.old out.new told.new result }
 {
     let Some(field) = lookup_field_of(flags, field) else {
         return report_usage(told);
     };
-    match Lookup::read(alloc, id, field, default_of(default)) {
+    match Lookup::read(alloc, id, offering_of(offer), field, default_of(default)) {
         Ok(asked) => report_text_in(alloc, text, &asked, place, out, told),
         Err(fault) => report_refusal(&fault, told),
     }
@@ -624,20 +642,22 @@ pub extern "C" fn sw_text_text(
 pub extern "C" fn sw_text_filter(
     alloc: Global,
     text: &[u8],
+    offer: &[u8],
     flags: u32,
     id: &[u8],
     field: &[u8],
     out: &mut [u8],
     told: &mut Told,
 ) -> i32
-    ensures written { ReportsWritten text.now (λ site. ReportsFilter site flags id.now field.now)
-        out.old out.new told.new result }
-    ensures read { ReportsReadFilter flags id.now field.now out.old out.new told.new result }
+    ensures written { ReportsWritten text.now (λ site. ReportsFilter site (offer_of offer.now) flags
+        id.now field.now) out.old out.new told.new result }
+    ensures read { ReportsReadFilter (offer_of offer.now) flags id.now field.now out.old out.new
+        told.new result }
 {
     let Some(field) = field_of(flags, field) else {
         return report_usage(told);
     };
-    match Filter::read(alloc, id, field) {
+    match Filter::read(alloc, id, offering_of(offer), field) {
         Ok(filter) => report(filter.answer_in(alloc, text), out, told),
         Err(fault) => report_refusal(&fault, told),
     }

@@ -9,6 +9,7 @@ use Rattle.cell_core.specs.declared.fault.CellFault.TheVariants as cell
 use Rattle.cata_core.specs.Site.{SiteState}
 use Rattle.catalogue.specs.Asking.{IsLookupAnswerBy}
 use Rattle.catalogue.specs.Entries.{Entries}
+use Rattle.catalogue.specs.EntriesOffered.{offered_cells}
 use Rattle.catalogue.specs.declared.reply.Reply.{Reply}
 use Rattle.json_docs.specs.FaultChecks.{OrMemory}
 use Rattle.row_docs.specs.Reading.{IsOfDocument, no_memory}
@@ -21,8 +22,9 @@ use Rattle.query_docs.specs.Lines.{reply_line}
 use Rattle.query_docs.specs.LiveCellsLookup.{answered}
 use Rattle.query_docs.specs.declared.asking.Ask.TheVariants as ask
 use Rattle.front_core.specs.Fault.{IsOf, document_fault, cell_fault, field_fault}
-use Rattle.front_core.specs.Preferences.{FieldText, ReadsAs, RefusesRanges, Text, ArePreferences}
-use Rattle.front_core.specs.Preferences.{RefusesPreferences}
+use Rattle.front_core.specs.Offering.{HasOffer, IsOffer, Offers, RefusesOffer}
+use Rattle.front_core.specs.Preferences.{FieldText, ReadsAs, RefusesRanges, Text}
+use Rattle.front_core.specs.Reader.{IsReader, RefusesReader}
 use Rattle.front_core.specs.declared.answer.Answer.{Answer}
 use Rattle.front_core.specs.declared.ask.SiteIn.{SiteIn}
 use Rattle.front_core.specs.declared.ask.SiteIn.TheVariants.{Document, Open}
@@ -33,7 +35,7 @@ use Rattle.front_core.specs.declared.answer.Outcome.{Outcome}
 use Rattle.front_core.specs.declared.answer.Outcome.TheVariants.{Found, Nothing}
 use Rattle.front_core.specs.declared.ask.Filter.{Filter}
 use Rattle.front_core.specs.declared.ask.Lookup.{Lookup}
-use Rattle.front_core.specs.declared.preferences.Preferences.{Preferences}
+use Rattle.front_core.specs.declared.reader.Reader.{Reader}
 use Rattle.front_core.specs.declared.answer.LabelText.TheVariants as label
 
 -- why bytes are no document of a site; or memory ended
@@ -97,33 +99,35 @@ RefusesId id = IsOf cell_fault (RefusesIdText id)
 
 -- ---- the questions
 
--- the question of a lookup: this message, and these preferences
-abbrev pub IsLookup : Text → FieldText → Option Text → Lookup → Type 0
-IsLookup id field word asked = IsId id × (asked.id ≡ id)
-    × ArePreferences field word asked.preferences
+-- the question of a lookup: this message, and this reader
+abbrev pub IsLookup : Text → Offers → FieldText → Option Text → Lookup → Type 0
+IsLookup id offers field word asked = IsId id × (asked.id ≡ id)
+    × IsReader offers field word asked.reader
 
--- the id is refused first, then the default, and then the field
-abbrev pub RefusesLookup : Text → FieldText → Option Text → FrontFault → Type 0
-RefusesLookup id field word fault = RefusesId id fault
-    ⊎ (IsId id × RefusesPreferences field word fault)
+-- the id is refused first, then the default, then the offer, and then the field
+abbrev pub RefusesLookup : Text → Offers → FieldText → Option Text → FrontFault → Type 0
+RefusesLookup id offers field word fault = RefusesId id fault
+    ⊎ (IsId id × RefusesReader offers field word fault)
 
--- the question of a filter: this message, the field's scheme, and its list
-abbrev pub IsFilter : Text → FieldText → Filter → Type 0
-IsFilter id field asked = IsId id × (asked.id ≡ id) × (asked.scheme ≡ field.scheme)
-    × ReadsAs field asked.list
+-- the question of a filter: this message, the offer, the field's scheme, and its list
+abbrev pub IsFilter : Text → Offers → FieldText → Filter → Type 0
+IsFilter id offers field asked = IsId id × (asked.id ≡ id) × (asked.scheme ≡ field.scheme)
+    × ReadsAs field asked.list × IsOffer offers asked.offer
 
--- the id is refused first, and then the field
-abbrev pub RefusesFilter : Text → FieldText → FrontFault → Type 0
-RefusesFilter id field fault = RefusesId id fault
-    ⊎ (IsId id × IsOf field_fault (RefusesRanges field) fault)
+-- the id is refused first, then the offer, and then the field
+abbrev pub RefusesFilter : Text → Offers → FieldText → FrontFault → Type 0
+RefusesFilter id offers field fault = RefusesId id fault
+    ⊎ (IsId id × (IsOf field_fault (RefusesOffer offers) fault
+    ⊎ (HasOffer offers × IsOf field_fault (RefusesRanges field) fault)))
 
 -- ---- what answers it, over the cells of a site
 
 -- what lookup (RFC 4647 section 3.4), or widened lookup, finds among the live labels of the message
+-- that are offered
 abbrev pub IsReply : Entries → Lookup → Reply → Type 0
 IsReply cells asked reply =
-    IsLookupAnswerBy asked.preferences.widening cells asked.id asked.preferences.list
-    asked.preferences.default reply
+    IsLookupAnswerBy asked.reader.preferences.widening (offered_cells asked.reader.offer cells)
+    asked.id asked.reader.preferences.list asked.reader.preferences.default reply
 
 -- its line
 abbrev pub AnswersLookup : Entries → Lookup → Answer → Type 0
@@ -148,19 +152,23 @@ abbrev pub AnswersText : Entries → Lookup → ℕ → LabelText → Type 0
 AnswersText cells asked place text =
     (reply : Reply) × IsReply cells asked reply × IsTextAt place (texts_of reply) text
 
--- the lines of the live labels of the message that the list takes (RFC 4647 section 3.3)
+-- the lines of the live labels of the message that are offered and that the list takes (RFC 4647
+-- section 3.3)
 abbrev pub AnswersFilter : Entries → Filter → Answer → Type 0
-AnswersFilter cells asked answer = Answers cells asked.id (ask.Filter asked.scheme asked.list)
-    answer.text (is_found answer.outcome)
+AnswersFilter cells asked answer = Answers (offered_cells asked.offer cells) asked.id
+    (ask.Filter asked.scheme asked.list) answer.text (is_found answer.outcome)
 
--- the language maps of the labels that lookup finds, one for each message at most
-abbrev pub AnswersBundle : Entries → Preferences → Answer → Type 0
+-- the language maps of the labels that lookup finds among those that are offered, one for each
+-- message at most
+abbrev pub AnswersBundle : Entries → Reader → Answer → Type 0
 AnswersBundle cells asked answer =
     (labels : List Labelled)
-    × IsBundleBy asked.widening cells asked.list asked.default labels
+    × IsBundleBy asked.preferences.widening (offered_cells asked.offer cells)
+    asked.preferences.list asked.preferences.default labels
     × AreWritten labels answer.text (is_found answer.outcome)
 
 -- the text at a place of the label that the lookup asked finds
-abbrev pub IsLookupText : Entries → Text → FieldText → Option Text → ℕ → LabelText → Type 0
-IsLookupText cells id field word place text = (asked : Lookup) × IsLookup id field word asked
-    × AnswersText cells asked place text
+abbrev pub IsLookupText : Entries → Text → Offers → FieldText → Option Text → ℕ → LabelText
+    → Type 0
+IsLookupText cells id offers field word place text = (asked : Lookup)
+    × IsLookup id offers field word asked × AnswersText cells asked place text

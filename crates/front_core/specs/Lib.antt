@@ -3,8 +3,11 @@ pub mod Ask
 pub mod Change
 pub mod Exchange
 pub mod Fault
+pub mod Offering
+pub mod OfferingItems
 pub mod OpenSite
 pub mod Preferences
+pub mod Reader
 pub mod Refusal
 pub mod Spare
 pub mod TagFilter

@@ -27,7 +27,7 @@ texts_1 =
       cause =
           codes "the tag is empty";
       remedy =
-          codes "write a tag, or @none where a language may be none";
+          codes "write a tag, or @none for no language";
     }
 
 -- what refusal 2 means, what causes it, and what to do
@@ -38,7 +38,7 @@ texts_2 =
       meaning =
           meaning_of lang.TagTooLong;
       cause =
-          codes "the tag is longer, which is our limit";
+          codes "the tag is longer; the limit is our own";
       remedy =
           codes "shorten it; no real tag is this long";
     }
@@ -51,10 +51,10 @@ texts_3 =
       meaning =
           meaning_of (lang.TagSubtag 0);
       cause =
-          codes "the subtag that begins at OFFSET is empty, longer, or has another byte: "
-          ++ codes "mostly an underscore (fr_CA), a blank, a doubled or a last hyphen";
+          codes "the subtag that begins at OFFSET is empty, too long, or has another byte: "
+          ++ codes "mostly an underscore (fr_CA), a blank, or a doubled or last hyphen";
       remedy =
-          codes "look there; in language maps see also that no message is where a language "
+          codes "look there; in language maps check also that no message is where a language "
           ++ codes "belongs";
     }
 
@@ -66,9 +66,10 @@ texts_4 =
       meaning =
           meaning_of lang.TagNotWellFormed;
       cause =
-          codes "each subtag is one, but their order is not that of RFC 5646 section 2.1";
+          codes "each subtag is well-formed, but their order is not that of RFC 5646 section "
+          ++ codes "2.1";
       remedy =
-          codes "put them in that order";
+          codes "put the subtags in that order";
     }
 
 -- what refusal 5 means, what causes it, and what to do
@@ -92,7 +93,7 @@ texts_6 =
       meaning =
           meaning_of lang.RangeTooLong;
       cause =
-          codes "the range is longer, which is our limit";
+          codes "the range is longer; the limit is our own";
       remedy =
           codes "shorten it; no real range is this long";
     }
@@ -105,9 +106,9 @@ texts_7 =
       meaning =
           meaning_of (lang.RangeSubtag 0);
       cause =
-          codes "the subtag that begins at OFFSET may not be at its place";
+          codes "the subtag that begins at OFFSET is not allowed there";
       remedy =
-          codes "look there; extended ranges take * at any place";
+          codes "look there; extended ranges take * anywhere";
     }
 
 -- what refusal 8 means, what causes it, and what to do
@@ -118,10 +119,10 @@ texts_8 =
       meaning =
           codes "a field has at most 65535 bytes";
       cause =
-          codes "an Accept-Language field or a list of ranges is longer, which is our limit; "
-          ++ codes "no browser sends one this long";
+          codes "an Accept-Language field or a list of ranges is longer; the limit is our own, "
+          ++ codes "and no browser sends one this long";
       remedy =
-          codes "refuse the request, or go on as with the field *";
+          codes "refuse the request, or go on as if the field were *";
     }
 
 -- what refusal 9 means, what causes it, and what to do
@@ -133,10 +134,11 @@ texts_9 =
           codes "each element of a field is a range, with or without a weight (RFC 9110 "
           ++ codes "sections 12.4.2 and 12.5.4)";
       cause =
-          codes "the element that begins at OFFSET is none: mostly a weight over 1, with "
-          ++ codes "four digits, or with a blank around =, or an underscore for a hyphen";
+          codes "the element that begins at OFFSET is malformed: mostly its weight is over 1, "
+          ++ codes "has four decimals or a blank around =, or its range has an underscore for "
+          ++ codes "a hyphen";
       remedy =
-          codes "look there; a front end may go on as with the field *, or skip what is "
+          codes "look there; a front end may go on as if the field were *, or skip what is "
           ++ codes "malformed with --lenient";
     }
 
@@ -148,10 +150,10 @@ texts_10 =
       meaning =
           codes "a message id has 1 to 128 bytes, no control character, and no @ first";
       cause =
-          codes "the id is empty, longer, not UTF-8, or has such a character; often a whole "
+          codes "the id is empty, too long, not UTF-8, or has such a character; often a whole "
           ++ codes "text is used as an id";
       remedy =
-          codes "name the message otherwise";
+          codes "give the message another id";
     }
 
 -- what refusal 11 means, what causes it, and what to do
@@ -162,7 +164,7 @@ texts_11 =
       meaning =
           codes "each text of a label has at most 65535 bytes";
       cause =
-          codes "the text INDEX is longer, which is our limit";
+          codes "the text INDEX is longer; the limit is our own";
       remedy =
           codes "cut the text in two";
     }
@@ -175,9 +177,9 @@ texts_12 =
       meaning =
           codes "a label has 1 to 64 texts";
       cause =
-          codes "it has COUNT";
+          codes "the label has COUNT texts";
       remedy =
-          codes "put at most 64; a message without text is deleted, not put";
+          codes "put at most 64 texts; if there is none, delete the label";
     }
 
 -- what refusal 13 means, what causes it, and what to do
@@ -186,13 +188,13 @@ texts_13 =
     record {
       text = codes "one stamp is used for two different edits, cell PLACE";
       meaning =
-          codes "two different edits of a message in a language have two stamps";
+          codes "two different edits of a message in a language have two timestamps";
       cause =
-          codes "two have one, first at PLACE, counted in the cells of the receiving site: "
-          ++ codes "two sites have one name, or a site was put back to an older copy";
+          codes "cell PLACE of the receiving site is the first whose timestamp another edit "
+          ++ codes "has too: two sites have one name, or a site was put back to an older copy";
       remedy =
           codes "find those sites; a newer edit of the message in that language ends the "
-          ++ codes "clash; let a site that was put back send its summary anew";
+          ++ codes "conflict; let a site that was put back send a new summary";
     }
 
 -- what refusal 14 means, what causes it, and what to do
@@ -201,9 +203,9 @@ texts_14 =
     record {
       text = codes "clock is spent";
       meaning =
-          codes "an edit has a stamp later than all that its site has";
+          codes "an edit has a timestamp later than all that its site has";
       cause =
-          codes "no later stamp is left: a time far ahead was merged";
+          codes "no later timestamp is left: a time far ahead was merged";
       remedy =
           codes "drop the cells of that time from all sites at once, as docs/RECIPES.md says "
           ++ codes "under A time far ahead";
@@ -215,11 +217,11 @@ texts_15 =
     record {
       text = codes "delta is for another site";
       meaning =
-          codes "a delta is taken by the site that it was made for";
+          codes "a delta is applied to the site that it was made for";
       cause =
-          codes "it was made for the site ADDRESSEE";
+          codes "the delta was made for the site ADDRESSEE";
       remedy =
-          codes "bring it to that site";
+          codes "apply it to that site";
     }
 
 -- what refusal 16 means, what causes it, and what to do
@@ -257,8 +259,8 @@ texts_18 =
       meaning =
           codes "a document is UTF-8 (RFC 3629)";
       cause =
-          codes "the bytes from OFFSET on are not, which counts from the document's first "
-          ++ codes "byte";
+          codes "the bytes from OFFSET on are not UTF-8; OFFSET counts from the document's "
+          ++ codes "first byte";
       remedy =
           codes "look there, or convert the file (iconv -f LATIN1 -t UTF-8, -f UTF-16)";
     }
@@ -272,11 +274,11 @@ texts_19 =
           codes "a document is one JSON text (RFC 8259) of at most 127 levels, without a "
           ++ codes "number too large for a float";
       cause =
-          codes "mostly a document that was forgotten or cut, two documents where one is "
-          ++ codes "read, a document 1 on more than one line, or a byte order mark";
+          codes "mostly a document was forgotten or cut, two came in place of one, document 1 "
+          ++ codes "is on several lines, or a byte order mark comes first";
       remedy =
-          codes "jq empty FILE finds the place; where it finds none, see that each document "
-          ++ codes "is where the command reads it";
+          codes "jq empty FILE finds the place; if it finds none, check that each document is "
+          ++ codes "where the command reads it";
     }
 
 -- what refusal 20 means, what causes it, and what to do
@@ -287,11 +289,11 @@ texts_20 =
       meaning =
           codes "a document and its rows have the form of the kind that is read";
       cause =
-          codes "mostly language maps where a site is read; or a missing or further member, "
-          ++ codes "a number where a string belongs, a fraction";
+          codes "mostly language maps in place of a site; or a missing or unknown member, a "
+          ++ codes "number in place of a string, or a fraction";
       remedy =
-          codes "see that each document is what is read at its place (jq -c .kind; language "
-          ++ codes "maps have none), then compare it with docs/FORMATS.md";
+          codes "check that each document is of the kind that is read there (jq -c .kind; "
+          ++ codes "language maps have none), then compare it with docs/FORMATS.md";
     }
 
 -- what refusal 21 means, what causes it, and what to do
@@ -315,7 +317,7 @@ texts_22 =
       meaning =
           codes "the languages of a message differ, without regard to case";
       cause =
-          codes "two keys of one language map are equal without case";
+          codes "two keys of one language map differ at most in case";
       remedy =
           codes "keep one of them";
     }
@@ -328,10 +330,10 @@ texts_23 =
       meaning =
           codes "a command reads at most 67108864 bytes, all its documents together";
       cause =
-          codes "the input is longer, which is our limit";
+          codes "the input is longer; the limit is our own";
       remedy =
-          codes "split language maps; where sync of two sites is refused, exchange deltas; "
-          ++ codes "keep a large site in parts (docs/SCALING.md)";
+          codes "split language maps; if a sync of two sites is refused, exchange deltas; keep "
+          ++ codes "a large site in parts (docs/SCALING.md)";
     }
 
 -- what refusal 24 means, what causes it, and what to do
@@ -342,8 +344,8 @@ texts_24 =
       meaning =
           codes "the input is read to its end";
       cause =
-          codes "it gave an error: it is a folder or closed, a disk or network fails, or it "
-          ++ codes "is a non-blocking pipe with nothing in it yet";
+          codes "the input gave an error: it is a folder or closed, a disk or network fails, "
+          ++ codes "or it is a non-blocking pipe with nothing in it yet";
       remedy =
           codes "cat < FILE says why";
     }
@@ -356,9 +358,9 @@ texts_25 =
       meaning =
           codes "the output takes all that is written";
       cause =
-          codes "it gave an error or took no byte: the disk is full, the reader went away, "
-          ++ codes "or it is a non-blocking pipe that is full; a first part of the text may be "
-          ++ codes "written";
+          codes "the output gave an error or took no byte: the disk is full, the reader went "
+          ++ codes "away, or it is a non-blocking pipe that is full; a first part of the text "
+          ++ codes "may be written";
       remedy =
           codes "cat FILE > OUT says why";
     }
@@ -384,10 +386,10 @@ texts_27 =
       meaning =
           codes "a site name has 1 to 16 bytes of a to z, 0 to 9 and -";
       cause =
-          codes "the name is empty, longer, or has another byte, as a capital, a dot or an "
-          ++ codes "underscore";
+          codes "the name is empty, too long, or has another byte, such as a capital, a dot or "
+          ++ codes "an underscore";
       remedy =
-          codes "name the site otherwise";
+          codes "give the site another name";
     }
 
 -- what refusal 28 means, what causes it, and what to do
@@ -398,7 +400,7 @@ texts_28 =
       meaning =
           codes "the version of a document is 1 or 2";
       cause =
-          codes "the document is of the right kind, and of a later program";
+          codes "the document is of the right kind, but a later program made it";
       remedy =
           codes "use that program";
     }
@@ -411,8 +413,8 @@ texts_29 =
       meaning =
           codes "no row has a time after the limit";
       cause =
-          codes "the time of row R is after that of --not-after: a clock that runs ahead, or "
-          ++ codes "a time that somebody made";
+          codes "the time of row R is after that of --not-after: a clock runs ahead, or "
+          ++ codes "somebody made the time up";
       remedy =
           codes "set the clock right, and drop the cells of that time where they come from, "
           ++ codes "as docs/RECIPES.md says under A time far ahead";
@@ -426,11 +428,11 @@ texts_30 =
       meaning =
           codes "a site has each edit that it made, or a later one of that label";
       cause =
-          codes "row R is an edit of the site that takes it, which that site lacks: it was put "
-          ++ codes "back to an older copy, or another site has its name";
+          codes "row R is an edit that the receiving site made itself and lacks: the site was "
+          ++ codes "put back to an older copy, or another site has its name";
       remedy =
-          codes "before the next edit take in what every other site has, without --check-own; "
-          ++ codes "if two sites have one name, give one of them another";
+          codes "before the next edit apply what every other site has, without --check-own; if "
+          ++ codes "two sites have one name, give one of them another";
     }
 
 -- the texts of the refusals 1 to 30, in their order

@@ -4,10 +4,13 @@ ghost use Rattle.std.specs.Prelude.{◌≡◌, option_map, slice_get, MatchResul
 ghost use Rattle.cata_core.specs.Site.{SiteState};
 ghost use Rattle.front_core.specs.Ask.{IsAnsweredIn, RefusesIn, IsId, IsTextAt, RefusesIdText};
 ghost use Rattle.front_core.specs.Ask.{texts_of};
+ghost use Rattle.front_core.specs.Offering.{offers_of};
 
 use crate::answer::{Answer, LabelText, Outcome};
 use crate::fault::FrontFault;
+use crate::offering::{Offered, Offering};
 use crate::preferences::{Field, Preferences};
+use crate::reader::Reader;
 use cata_core::{LentReply, Site};
 use cell_core::{CellFault, Label, MessageId};
 use docs_core::{read_message, reply_line};
@@ -41,14 +44,14 @@ pub trait Question: Sized + Drop {
 
 /// Which label of a message a reader gets (RFC 4647, section 3.4), or gets by widened lookup.
 #[derive(Drop)]
-pub struct Lookup {
+pub struct Lookup<'o> {
     /// The message.
     pub id: MessageId,
-    /// The ranges and the default of the reader.
-    pub preferences: Preferences,
+    /// The reader.
+    pub reader: Reader<'o>,
 }
 
-impl Lookup {
+impl<'o> Lookup<'o> {
     ghost use Rattle.std.specs.Prelude.{IfOk, MatchResult};
     ghost use Rattle.catalogue.specs.Reply.{reply_of};
     ghost use Rattle.front_core.specs.Ask.{AnswersLookup, AnswersText, IsLookup, IsReply};
@@ -57,22 +60,24 @@ impl Lookup {
 
     /// Reads a lookup from these bytes.
     ///
-    /// Refused are the id first (10), then the default (1 to 4), then the field (8, and 9 where a
-    /// malformed element refuses it). Out of memory (26) may come before a later refusal.
+    /// Refused are the id first (10), then the default (1 to 4), then the offer, then the field
+    /// (each 8, and 9 where a malformed element refuses it). Out of memory (26) may come before a
+    /// later refusal.
     pub fn read(
         alloc: Global,
         id: &[u8],
+        offering: Offering<'o>,
         field: Field<'_>,
         default: Option<&[u8]>,
-    ) -> Result<Lookup, FrontFault>
-        ensures { MatchResult result (IsLookup id.now (field_text field.entry)
-            (option_map (λ s. s.now) default.entry))
-            (RefusesLookup id.now (field_text field.entry)
+    ) -> Result<Lookup<'o>, FrontFault>
+        ensures { MatchResult result (IsLookup id.now (offers_of offering.entry)
+            (field_text field.entry) (option_map (λ s. s.now) default.entry))
+            (RefusesLookup id.now (offers_of offering.entry) (field_text field.entry)
             (option_map (λ s. s.now) default.entry)) }
     {
         let id = read_id(alloc, id)?;
-        let preferences = Preferences::read(alloc, field, default)?;
-        Ok(Lookup { id, preferences })
+        let reader = Reader::read(alloc, offering, field, default)?;
+        Ok(Lookup { id, reader })
     }
 
     /// The text at a place, counted from 0, of the label that is found. It takes no memory.
@@ -102,15 +107,16 @@ impl Lookup {
             list,
             widening,
             default,
-        } = &self.preferences;
+        } = &self.reader.preferences;
+        let offer = self.reader.offer.offer();
         site.catalogue()
-            .ask_lookup_by(&self.id, list, *widening, default.as_ref())
+            .ask_lookup_by(&self.id, offer, list, *widening, default.as_ref())
     }
 }
 
 /// The line of the label that is found, with its LF: `matched LANGUAGE LABEL`, `default LANGUAGE
 /// LABEL` or `nothing`, where a label is the compact JSON array of its texts.
-impl Question for Lookup {
+impl Question for Lookup<'_> {
     ghost use Rattle.front_core.specs.Ask.{AnswersLookup};
 
     ghost Answers = { λ asked site. AnswersLookup site.cells asked };
@@ -129,32 +135,42 @@ impl Question for Lookup {
 
 /// Which labels of a message the ranges of a field take (RFC 4647, section 3.3).
 #[derive(Drop)]
-pub struct Filter {
+pub struct Filter<'o> {
     /// The message.
     pub id: MessageId,
+    /// What readers are offered of a site.
+    pub offer: Offered<'o>,
     /// Basic filtering (section 3.3.1) or extended (section 3.3.2).
     pub scheme: Scheme,
     /// The ranges, with their weights.
     pub list: PriorityList,
 }
 
-impl Filter {
+impl<'o> Filter<'o> {
     ghost use Rattle.std.specs.Prelude.{IfOk, MatchResult};
     ghost use Rattle.front_core.specs.Ask.{AnswersFilter, IsFilter, RefusesFilter};
     ghost use Rattle.front_core.specs.Preferences.{field_text};
 
     /// Reads a filter from these bytes, under the scheme of the field.
     ///
-    /// Refused are the id first (10), then the field (8, and 9 where a malformed element refuses
-    /// it). Out of memory (26) may come before a later refusal.
-    pub fn read(alloc: Global, id: &[u8], field: Field<'_>) -> Result<Filter, FrontFault>
-        ensures { MatchResult result (IsFilter id.now (field_text field.entry))
-            (RefusesFilter id.now (field_text field.entry)) }
+    /// Refused are the id first (10), then the offer, then the field (each 8, and 9 where a
+    /// malformed element refuses it). Out of memory (26) may come before a later refusal.
+    pub fn read(
+        alloc: Global,
+        id: &[u8],
+        offering: Offering<'o>,
+        field: Field<'_>,
+    ) -> Result<Filter<'o>, FrontFault>
+        ensures { MatchResult result (IsFilter id.now (offers_of offering.entry)
+            (field_text field.entry))
+            (RefusesFilter id.now (offers_of offering.entry) (field_text field.entry)) }
     {
         let id = read_id(alloc, id)?;
+        let offer = offering.read(alloc)?;
         let list = field.read(alloc)?;
         Ok(Filter {
             id,
+            offer,
             scheme: field.scheme,
             list,
         })
@@ -164,9 +180,13 @@ impl Filter {
     fn lines(&self, alloc: Global, site: &Site) -> Result<Answer, AllocError>
         ensures { IfOk result (AnswersFilter site.now.cells self.now) }
     {
-        let entries = site
-            .catalogue()
-            .ask_filter(alloc, &self.id, &self.list, self.scheme)?;
+        let entries = site.catalogue().ask_filter_by(
+            alloc,
+            &self.id,
+            self.offer.offer(),
+            &self.list,
+            self.scheme,
+        )?;
         let text = docs_core::filter_lines(alloc, &entries)?;
         Ok(Answer::new(text, Outcome::of(entries.len() != 0)))
     }
@@ -174,7 +194,7 @@ impl Filter {
 
 /// The lines of the labels whose languages fit, best first: `filter N`, then N lines `LANGUAGE
 /// WEIGHT LABEL`, with the weight in thousandths; a label is the compact JSON array of its texts.
-impl Question for Filter {
+impl Question for Filter<'_> {
     ghost use Rattle.front_core.specs.Ask.{AnswersFilter};
 
     ghost Answers = { λ asked site. AnswersFilter site.cells asked };

@@ -1,8 +1,9 @@
 //! Questions of a front end: which language, or which label of a site, a reader gets.
 //!
 //! - A [`Question`] is answered over a [`SiteIn`], a site in memory or the text of a document:
-//!   [`Lookup`], [`Filter`] and [`Preferences`] ask for a reader, [`Missing`] and [`Outdated`] for
-//!   a translator, and a [`View`] shows the whole site. It is read first, and then answered.
+//!   [`Lookup`], [`Filter`] and [`Reader`] ask for a reader, [`Missing`] and [`Outdated`] for
+//!   a translator, and a [`View`] shows the whole site. It is read first, and then answered. A
+//!   reader is answered from what an [`Offering`] offers of the site.
 //! - An [`OpenSite`] is a site in memory, made or read once, which shares may have in common; its
 //!   calls edit it. A refused edit leaves it as it was, but for what [`OpenSite::merge`] and
 //!   [`OpenSite::take`] say of out of memory. A [`Change`] is the edit of one label, of such a site
@@ -23,7 +24,8 @@
 //! let field = Field { scheme, malformed, widening: Widening::Off, text: b"da, en;q=0.8" };
 //! pick(alloc, field, None, b"en\nfr\n")?               Picked::Matched(b"en")
 //! let site = OpenSite::read(alloc, document)?;
-//! let asked = Lookup::read(alloc, b"greeting", field, Some(b"fr"))?;
+//! let offering = Offering::Given(Offer::Public);
+//! let asked = Lookup::read(alloc, b"greeting", offering, field, Some(b"fr"))?;
 //! asked.text(site.site(), 0)            LabelText::Found { text: "Hello", count: 1 }
 //! asked.answer(alloc, SiteIn::Open(site.site()))?.text    matched en ["Hello"]
 //! ```
@@ -39,8 +41,10 @@ mod editing;
 mod exchange;
 mod fault;
 pub mod laws;
+mod offering;
 mod open_site;
 mod preferences;
+mod reader;
 mod refusal;
 mod spare;
 mod tag_filter;
@@ -56,8 +60,10 @@ pub use ask::{Filter, Lookup, Question, SiteIn};
 pub use change::Change;
 pub use exchange::{View, delta};
 pub use fault::FrontFault;
+pub use offering::{Offered, Offering};
 pub use open_site::OpenSite;
 pub use preferences::{Field, Preferences};
+pub use reader::Reader;
 pub use refusal::{Refusal, explain};
 pub use tag_filter::filter_tags;
 pub use tag_pick::{Picked, pick};

@@ -3,10 +3,7 @@ ghost use Rattle.std.specs.Prelude.{MatchResult, option_map};
 ghost use Rattle.front_core.specs.Preferences.{ReadsAs, RefusesRanges, field_text, IsDefault};
 ghost use Rattle.front_core.specs.Preferences.{RefusesDefault};
 
-use crate::answer::Answer;
-use crate::ask::{Question, SiteIn};
 use crate::fault::FrontFault;
-use docs_core::{bundle_document_by, write_bundle_by};
 use lang_core::{Lang, LangFault};
 use nego_core::{Malformed, NegoFault, PriorityList, Scheme, Widening};
 use std::alloc::Global;
@@ -73,37 +70,8 @@ impl Preferences {
     }
 }
 
-/// The language maps of the labels that the reader gets: of each message of the site the one that
-/// its lookup finds (RFC 4647, section 3.4), or its widened lookup, matched or as the default. A
-/// message for which nothing is found is left out; `{}` where none is left.
-impl Question for Preferences {
-    ghost use Rattle.front_core.specs.Ask.{AnswersBundle};
-
-    ghost Answers = { λ asked site. AnswersBundle site.cells asked };
-
-    fn answer(&self, alloc: Global, site: SiteIn<'_>) -> Result<Answer, FrontFault> {
-        let Preferences {
-            list,
-            widening,
-            default,
-        } = self;
-        let default = default.as_ref();
-        match site {
-            SiteIn::Document(bytes) => {
-                let found = bundle_document_by(alloc, bytes, list, *widening, default)?;
-                Ok(Answer::of(found))
-            }
-            SiteIn::Open(site) => {
-                let cells = site.catalogue();
-                let found = write_bundle_by(alloc, cells, list, *widening, default)?;
-                Ok(Answer::of(found))
-            }
-        }
-    }
-}
-
 /// The language of the default, where there is one.
-fn read_default(alloc: Global, default: Option<&[u8]>) -> Result<Option<Lang>, LangFault>
+pub(crate) fn read_default(alloc: Global, default: Option<&[u8]>) -> Result<Option<Lang>, LangFault>
     ensures { MatchResult result (IsDefault (option_map (λ s. s.now) default.entry))
         (RefusesDefault (option_map (λ s. s.now) default.entry)) }
 {

@@ -8,8 +8,8 @@ use lang_core::LangFault;
 /// refusal. `docs/REFUSALS.md` has the same texts.
 #[derive(Clone, Copy)]
 pub struct Refusal {
-    /// What the command prints after `refused N: `, but of 13 without the stamp, and of 15 without
-    /// the site.
+    /// What the command prints after `refused N: `, but without the timestamp for 13 (duplicate
+    /// timestamp), and without the site for 15 (wrong addressee).
     pub text: &'static str,
     /// What is wanted.
     pub meaning: &'static str,
@@ -59,27 +59,28 @@ fn of_tag_or_range(number: u8) -> Refusal
             text: "tag is empty",
             meaning: LangFault::TagEmpty.meaning(),
             cause: "the tag is empty",
-            remedy: "write a tag, or @none where a language may be none",
+            remedy: "write a tag, or @none for no language",
         },
         2 => Refusal {
             text: "tag is over 255 bytes",
             meaning: LangFault::TagTooLong.meaning(),
-            cause: "the tag is longer, which is our limit",
+            cause: "the tag is longer; the limit is our own",
             remedy: "shorten it; no real tag is this long",
         },
         3 => Refusal {
             text: "subtag at OFFSET",
             meaning: LangFault::TagSubtag { offset: 0 }.meaning(),
-            cause: "the subtag that begins at OFFSET is empty, longer, or has another byte: mostly \
-                an underscore (fr_CA), a blank, a doubled or a last hyphen",
-            remedy: "look there; in language maps see also that no message is where a language \
+            cause: "the subtag that begins at OFFSET is empty, too long, or has another byte: \
+                mostly an underscore (fr_CA), a blank, or a doubled or last hyphen",
+            remedy: "look there; in language maps check also that no message is where a language \
                 belongs",
         },
         4 => Refusal {
             text: "tag is not well-formed",
             meaning: LangFault::TagNotWellFormed.meaning(),
-            cause: "each subtag is one, but their order is not that of RFC 5646 section 2.1",
-            remedy: "put them in that order",
+            cause: "each subtag is well-formed, but their order is not that of RFC 5646 section \
+                2.1",
+            remedy: "put the subtags in that order",
         },
         5 => Refusal {
             text: "range is empty",
@@ -90,14 +91,14 @@ fn of_tag_or_range(number: u8) -> Refusal
         6 => Refusal {
             text: "range is over 255 bytes",
             meaning: LangFault::RangeTooLong.meaning(),
-            cause: "the range is longer, which is our limit",
+            cause: "the range is longer; the limit is our own",
             remedy: "shorten it; no real range is this long",
         },
         7 => Refusal {
             text: "range subtag at OFFSET",
             meaning: LangFault::RangeSubtag { offset: 0 }.meaning(),
-            cause: "the subtag that begins at OFFSET may not be at its place",
-            remedy: "look there; extended ranges take * at any place",
+            cause: "the subtag that begins at OFFSET is not allowed there",
+            remedy: "look there; extended ranges take * anywhere",
         },
         _ => unreachable!(),
     }
@@ -112,37 +113,37 @@ fn of_field_or_label(number: u8) -> Refusal
         8 => Refusal {
             text: "field is over 65535 bytes",
             meaning: "a field has at most 65535 bytes",
-            cause: "an Accept-Language field or a list of ranges is longer, which is our limit; no \
-                browser sends one this long",
-            remedy: "refuse the request, or go on as with the field *",
+            cause: "an Accept-Language field or a list of ranges is longer; the limit is our own, \
+                and no browser sends one this long",
+            remedy: "refuse the request, or go on as if the field were *",
         },
         9 => Refusal {
             text: "field element at OFFSET",
             meaning: "each element of a field is a range, with or without a weight (RFC 9110 \
                 sections 12.4.2 and 12.5.4)",
-            cause: "the element that begins at OFFSET is none: mostly a weight over 1, with four \
-                digits, or with a blank around =, or an underscore for a hyphen",
-            remedy: "look there; a front end may go on as with the field *, or skip what is \
+            cause: "the element that begins at OFFSET is malformed: mostly its weight is over 1, \
+                has four decimals or a blank around =, or its range has an underscore for a hyphen",
+            remedy: "look there; a front end may go on as if the field were *, or skip what is \
                 malformed with --lenient",
         },
         10 => Refusal {
             text: "message id",
             meaning: "a message id has 1 to 128 bytes, no control character, and no @ first",
-            cause: "the id is empty, longer, not UTF-8, or has such a character; often a whole \
+            cause: "the id is empty, too long, not UTF-8, or has such a character; often a whole \
                 text is used as an id",
-            remedy: "name the message otherwise",
+            remedy: "give the message another id",
         },
         11 => Refusal {
             text: "text INDEX is over 65535 bytes",
             meaning: "each text of a label has at most 65535 bytes",
-            cause: "the text INDEX is longer, which is our limit",
+            cause: "the text INDEX is longer; the limit is our own",
             remedy: "cut the text in two",
         },
         12 => Refusal {
             text: "label has COUNT texts",
             meaning: "a label has 1 to 64 texts",
-            cause: "it has COUNT",
-            remedy: "put at most 64; a message without text is deleted, not put",
+            cause: "the label has COUNT texts",
+            remedy: "put at most 64 texts; if there is none, delete the label",
         },
         _ => unreachable!(),
     }
@@ -156,24 +157,24 @@ fn of_exchange(number: u8) -> Refusal
     match number {
         13 => Refusal {
             text: "one stamp is used for two different edits, cell PLACE",
-            meaning: "two different edits of a message in a language have two stamps",
-            cause: "two have one, first at PLACE, counted in the cells of the receiving site: two \
-                sites have one name, or a site was put back to an older copy",
+            meaning: "two different edits of a message in a language have two timestamps",
+            cause: "cell PLACE of the receiving site is the first whose timestamp another edit has \
+                too: two sites have one name, or a site was put back to an older copy",
             remedy: "find those sites; a newer edit of the message in that language ends the \
-                clash; let a site that was put back send its summary anew",
+                conflict; let a site that was put back send a new summary",
         },
         14 => Refusal {
             text: "clock is spent",
-            meaning: "an edit has a stamp later than all that its site has",
-            cause: "no later stamp is left: a time far ahead was merged",
+            meaning: "an edit has a timestamp later than all that its site has",
+            cause: "no later timestamp is left: a time far ahead was merged",
             remedy: "drop the cells of that time from all sites at once, as docs/RECIPES.md says \
                 under A time far ahead",
         },
         15 => Refusal {
             text: "delta is for another site",
-            meaning: "a delta is taken by the site that it was made for",
-            cause: "it was made for the site ADDRESSEE",
-            remedy: "bring it to that site",
+            meaning: "a delta is applied to the site that it was made for",
+            cause: "the delta was made for the site ADDRESSEE",
+            remedy: "apply it to that site",
         },
         16 => Refusal {
             text: "step STEP names no site",
@@ -201,25 +202,26 @@ fn of_document(number: u8) -> Refusal
         18 => Refusal {
             text: "not UTF-8 at OFFSET",
             meaning: "a document is UTF-8 (RFC 3629)",
-            cause: "the bytes from OFFSET on are not, which counts from the document's first byte",
+            cause: "the bytes from OFFSET on are not UTF-8; OFFSET counts from the document's \
+                first byte",
             remedy: "look there, or convert the file (iconv -f LATIN1 -t UTF-8, -f UTF-16)",
         },
         19 => Refusal {
             text: "not JSON",
             meaning: "a document is one JSON text (RFC 8259) of at most 127 levels, without a \
                 number too large for a float",
-            cause: "mostly a document that was forgotten or cut, two documents where one is read, \
-                a document 1 on more than one line, or a byte order mark",
-            remedy: "jq empty FILE finds the place; where it finds none, see that each document is \
+            cause: "mostly a document was forgotten or cut, two came in place of one, document 1 \
+                is on several lines, or a byte order mark comes first",
+            remedy: "jq empty FILE finds the place; if it finds none, check that each document is \
                 where the command reads it",
         },
         20 => Refusal {
             text: "shape",
             meaning: "a document and its rows have the form of the kind that is read",
-            cause: "mostly language maps where a site is read; or a missing or further member, a \
-                number where a string belongs, a fraction",
-            remedy: "see that each document is what is read at its place (jq -c .kind; language \
-                maps have none), then compare it with docs/FORMATS.md",
+            cause: "mostly language maps in place of a site; or a missing or unknown member, a \
+                number in place of a string, or a fraction",
+            remedy: "check that each document is of the kind that is read there (jq -c .kind; \
+                language maps have none), then compare it with docs/FORMATS.md",
         },
         21 => Refusal {
             text: "cell order",
@@ -230,7 +232,7 @@ fn of_document(number: u8) -> Refusal
         22 => Refusal {
             text: "language repeated",
             meaning: "the languages of a message differ, without regard to case",
-            cause: "two keys of one language map are equal without case",
+            cause: "two keys of one language map differ at most in case",
             remedy: "keep one of them",
         },
         _ => unreachable!(),
@@ -246,22 +248,23 @@ fn of_run_or_name(number: u8) -> Refusal
         23 => Refusal {
             text: "document is over 67108864 bytes",
             meaning: "a command reads at most 67108864 bytes, all its documents together",
-            cause: "the input is longer, which is our limit",
-            remedy: "split language maps; where sync of two sites is refused, exchange deltas; \
-                keep a large site in parts (docs/SCALING.md)",
+            cause: "the input is longer; the limit is our own",
+            remedy: "split language maps; if a sync of two sites is refused, exchange deltas; keep \
+                a large site in parts (docs/SCALING.md)",
         },
         24 => Refusal {
             text: "read fault",
             meaning: "the input is read to its end",
-            cause: "it gave an error: it is a folder or closed, a disk or network fails, or it is \
-                a non-blocking pipe with nothing in it yet",
+            cause: "the input gave an error: it is a folder or closed, a disk or network fails, or \
+                it is a non-blocking pipe with nothing in it yet",
             remedy: "cat < FILE says why",
         },
         25 => Refusal {
             text: "write fault",
             meaning: "the output takes all that is written",
-            cause: "it gave an error or took no byte: the disk is full, the reader went away, or \
-                it is a non-blocking pipe that is full; a first part of the text may be written",
+            cause: "the output gave an error or took no byte: the disk is full, the reader went \
+                away, or it is a non-blocking pipe that is full; a first part of the text may be \
+                written",
             remedy: "cat FILE > OUT says why",
         },
         26 => Refusal {
@@ -273,31 +276,31 @@ fn of_run_or_name(number: u8) -> Refusal
         27 => Refusal {
             text: "site name",
             meaning: "a site name has 1 to 16 bytes of a to z, 0 to 9 and -",
-            cause: "the name is empty, longer, or has another byte, as a capital, a dot or an \
-                underscore",
-            remedy: "name the site otherwise",
+            cause: "the name is empty, too long, or has another byte, such as a capital, a dot or \
+                an underscore",
+            remedy: "give the site another name",
         },
         28 => Refusal {
             text: "version unknown",
             meaning: "the version of a document is 1 or 2",
-            cause: "the document is of the right kind, and of a later program",
+            cause: "the document is of the right kind, but a later program made it",
             remedy: "use that program",
         },
         29 => Refusal {
             text: "time is ahead",
             meaning: "no row has a time after the limit",
-            cause: "the time of row R is after that of --not-after: a clock that runs ahead, or a \
-                time that somebody made",
+            cause: "the time of row R is after that of --not-after: a clock runs ahead, or \
+                somebody made the time up",
             remedy: "set the clock right, and drop the cells of that time where they come from, as \
                 docs/RECIPES.md says under A time far ahead",
         },
         30 => Refusal {
             text: "an edit of this site is missing here",
             meaning: "a site has each edit that it made, or a later one of that label",
-            cause: "row R is an edit of the site that takes it, which that site lacks: it was put \
-                back to an older copy, or another site has its name",
-            remedy: "before the next edit take in what every other site has, without --check-own; \
-                if two sites have one name, give one of them another",
+            cause: "row R is an edit that the receiving site made itself and lacks: the site was \
+                put back to an older copy, or another site has its name",
+            remedy: "before the next edit apply what every other site has, without --check-own; if \
+                two sites have one name, give one of them another",
         },
         _ => unreachable!(),
     }

@@ -25,7 +25,7 @@ pub fn message_in(alloc: Global, text: &[u8], id: &MessageId) -> Result<Site, Fr
     Ok(part)
 }
 
-impl Lookup {
+impl Lookup<'_> {
     ghost use Rattle.front_core.specs.Ask.{AnswersLookup};
 
     /// The answer over a document whose rows have no blanks, as [`Lookup::answer`] has it over its
@@ -39,7 +39,7 @@ impl Lookup {
     }
 }
 
-impl Filter {
+impl Filter<'_> {
     ghost use Rattle.front_core.specs.Ask.{AnswersFilter};
 
     /// The answer over a document whose rows have no blanks, as [`Filter::answer`] has it over its

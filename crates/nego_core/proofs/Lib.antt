@@ -12,6 +12,7 @@ pub mod FilteringSome
 pub mod FilteringUnweighted
 pub mod LangSetLemmas
 pub mod LookupPlacesLemmas
+pub mod OfferLemmas
 pub mod ShortlistLemmas
 pub mod ShortlistRankingLemmas
 pub mod UnrankedLemmas

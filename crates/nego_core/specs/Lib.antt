@@ -3,6 +3,7 @@ pub mod ChoosingUnweighted
 pub mod Filtering
 pub mod LangSet
 pub mod LookupPlaces
+pub mod Offer
 pub mod Shortlist
 pub mod Unranked
 pub mod WidenedChoice

@@ -1,6 +1,7 @@
 //! Laws about the definitions alone: each function's contract is the law.
 ghost use Rattle.std.specs.Prelude.{◌≡◌, ◌≢◌, ◌≤◌, ◌==◌, ◌↔◌, ◌⊎◌, ◌∷◌, ℕ, List, Option, Some};
-ghost use Rattle.std.specs.Prelude.{None, Bool, IsTrue, All, AllPairs, Contains, IsPermutation};
+ghost use Rattle.std.specs.Prelude.{None, [], true, Bool, IsTrue, All, AllPairs, Contains};
+ghost use Rattle.std.specs.Prelude.{IsPermutation};
 ghost use Rattle.std.specs.Prelude.{filter, map};
 ghost use Rattle.lang_core.specs.Text.{pieces, joined};
 ghost use Rattle.list_core.specs.Item.{Item};
@@ -16,6 +17,10 @@ ghost use Rattle.list_core.specs.Deciding.{NamedRefuse};
 ghost use Rattle.list_core.specs.Deciding.{IsRefusedLang};
 ghost use Rattle.nego_core.specs.ChoosingUnweighted.{AllUnweighted, IsMatchedAt, IsFirstHeld};
 ghost use Rattle.list_core.specs.Item.{AllPositive};
+ghost use Rattle.lang_core.specs.Lang.{none_text};
+ghost use Rattle.list_core.specs.declared.scheme.Scheme.TheVariants as scheme;
+ghost use Rattle.nego_core.specs.Filtering.{HasPick};
+ghost use Rattle.nego_core.specs.Offer.{IsPrivateUse, all_items, is_offered, public_items};
 ghost use Rattle.nego_core.specs.declared.lookup_places.Found.{Found};
 ghost use Rattle.nego_core.specs.declared.filtering.Pick.{Pick};
 
@@ -163,4 +168,18 @@ pub fn order_falls()
     ensures written { (items ordered : List Item) → IsOrder items ordered → (weight : ℕ)
         → filter (λ i. i.weight == weight) ordered
         ≡ filter (λ i. i.weight == weight) (filter is_tried items) }
+{}
+
+/// A list offers a language exactly where it is `@none`, or where basic filtering (RFC 4647 section
+/// 3.3.1) of this language alone gives it.
+pub fn offered_is_filtered()
+    ensures { (items : List Item) (lang : List ℕ) → IsTrue (is_offered items lang)
+        ↔ ((lang ≡ none_text) ⊎ HasPick scheme.Basic items (lang ∷ [])) }
+{}
+
+/// The field `*` offers all languages, and `*, x;q=0` all but those of private use.
+pub fn all_or_public_is_offered()
+    ensures all { (lang : List ℕ) → is_offered all_items lang ≡ true }
+    ensures public { (lang : List ℕ) → IsTrue (is_offered public_items lang)
+        ↔ (¬ IsPrivateUse lang) }
 {}

@@ -9,6 +9,7 @@ mod held;
 mod lenient;
 mod long_lists;
 mod looking_up;
+mod offering;
 mod reading;
 mod shortlists;
 mod widening;

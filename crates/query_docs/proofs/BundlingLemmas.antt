@@ -7,7 +7,8 @@
 -- each message.
 use Rattle.std.proofs.Common.{◌≡◌, ◌≢◌, ◌∙◌, ◌++◌, ℕ, zero, suc, true, false, cond, List, [], ◌∷◌}
 use Rattle.std.proofs.Common.{map, refl, sym, ap, subst, inl, inr, append_assoc, arith}
-use Rattle.std.specs.Prelude.{⊤, Contains, None, Option, Some, T, filter, slice_get}
+use Rattle.std.specs.Prelude.{⊤, ◌&&◌, Bool, Contains, Err, MatchResult, Ok, Result, None, Option}
+use Rattle.std.specs.Prelude.{Some, T, filter, slice_get}
 use Rattle.std.specs.List.{cons_option}
 use Rattle.std.proofs.lemmas.List.Elements.{Contains-append_cases, Contains-append_left}
 use Rattle.std.proofs.lemmas.List.Elements.{Contains-append_right}
@@ -25,6 +26,8 @@ use Rattle.cell_core.specs.Entry.{key_cmp, text_cmp}
 use Rattle.catalogue.specs.Entries.{Entries, Entry}
 use Rattle.catalogue.specs.Languages.{AreLanguages, LanguageMap, texts_in}
 use Rattle.catalogue.specs.Live.{languages, live, live_of}
+use Rattle.catalogue.specs.EntriesOffered.{offered_cells, offered_labels}
+use Rattle.catalogue.proofs.EntriesOfferedLemmas.{live_offered}
 use Rattle.catalogue.specs.LiveMessages.{AreMessages, LiveMessage, if_any}
 use Rattle.catalogue.specs.declared.reply.Reply.{Reply}
 use Rattle.catalogue.specs.declared.reply.Reply.TheVariants.{Default, Matched, Nothing}
@@ -35,7 +38,10 @@ use Rattle.catalogue.proofs.CatalogueNestedLemmas.{text_exact}
 use Rattle.catalogue.proofs.PlacesSearchLemmas.{find_get}
 use Rattle.catalogue.proofs.AskingLemmas.{one_lookup_answer_by}
 use Rattle.map_docs.specs.Maps.{Labelled}
-use Rattle.query_docs.specs.Bundling.{IsAnswer, IsBundleBy}
+use Rattle.query_docs.specs.Bundling.{IsAnswer, IsBundleBy, IsBundled, IsBundledUnder}
+use Rattle.nego_core.specs.Offer.{all_items}
+use Rattle.nego_core.specs.declared.widening.Widening.TheVariants.{Off}
+use Rattle.catalogue.proofs.EntriesOfferedLemmas.{all_cells}
 use Rattle.query_docs.specs.Draft.{HasWritten}
 use Rattle.query_docs.specs.Exporting.{live_labels}
 use Rattle.query_docs.specs.LiveCellsLookup.{LooksUp, answered, answered_of}
@@ -90,6 +96,69 @@ are_live cells messages are =
     (some_labels (live cells id) labels
     (sym (are.each id)
     ∙ find_get text_cmp nat_list_cmp_total messages i id labels are.ascend at)))
+
+-- messages in ascending order of id, each with all its live labels, and all that have such; others
+-- may be there
+pub record HasMessages (cells : Entries) (messages : List LiveMessage) : Type 0 where
+  pub ascend : IsMap text_cmp messages
+  pub each : AreLive cells messages
+  pub rest : (id : List ℕ) → find text_cmp id messages ≡ None → live cells id ≡ []
+
+-- ---- messages of what is offered
+
+-- a message with those of its labels that are offered
+abbrev pub shown : List Item → LiveMessage → LiveMessage
+shown offer m = (m.0, offered_labels offer m.1)
+
+-- the same of several
+abbrev pub shown_all : List Item → List LiveMessage → List LiveMessage
+shown_all offer messages = map (shown offer) messages
+
+shown_below : (offer : List Item) (x : List ℕ) (ms : List LiveMessage)
+    → below_all text_cmp x (shown_all offer ms) ≡ below_all text_cmp x ms
+shown_below offer x [] = refl
+shown_below offer x (m ∷ ms) =
+    ap (λ (b : Bool). is_lt (text_cmp x m.0) && b) (shown_below offer x ms)
+
+shown_sorted : (offer : List Item) (ms : List LiveMessage)
+    → is_sorted text_cmp (shown_all offer ms) ≡ is_sorted text_cmp ms
+shown_sorted offer [] = refl
+shown_sorted offer (m ∷ ms) =
+    ap (λ (b : Bool). b && is_sorted text_cmp (shown_all offer ms)) (shown_below offer m.0 ms)
+    ∙ ap (λ (b : Bool). below_all text_cmp m.0 ms && b) (shown_sorted offer ms)
+
+shown_live : (offer : List Item) (cells : Entries) (ms : List LiveMessage) → AreLive cells ms
+    → AreLive (offered_cells offer cells) (shown_all offer ms)
+shown_live offer cells [] h = tt
+shown_live offer cells (m ∷ ms) h = (
+  ap (offered_labels offer) h.0 ∙ sym (live_offered offer cells m.0),
+  shown_live offer cells ms h.1,
+)
+
+find_shown : (offer : List Item) (id : List ℕ) (ms : List LiveMessage)
+    → find text_cmp id (shown_all offer ms) ≡ None → find text_cmp id ms ≡ None
+find_shown offer id [] none = refl
+find_shown offer id (m ∷ ms) none =
+    elim (is_eq (text_cmp id m.0)) as
+    (λ t. cond t (Some (offered_labels offer m.1)) (find text_cmp id (shown_all offer ms)) ≡ None
+    → cond t (Some m.1) (find text_cmp id ms) ≡ None) [
+      | true ↦ λ e. absurd (cc)
+      | false ↦ λ e. find_shown offer id ms e
+    ] none
+
+-- The messages of a catalogue, with those of their labels that are offered, are those of what is
+-- offered of it.
+pub offered_messages : (offer : List Item) (cells : Entries) (messages : List LiveMessage)
+    → AreMessages cells messages
+    → HasMessages (offered_cells offer cells) (shown_all offer messages)
+offered_messages offer cells messages are = record {
+  ascend = subst T (sym (shown_sorted offer messages)) are.ascend;
+  each = shown_live offer cells messages (are_live cells messages are);
+  rest = λ id none.
+      live_offered offer cells id
+      ∙ ap (offered_labels offer)
+      (no_labels (live cells id) (sym (are.each id) ∙ find_shown offer id messages none));
+}
 
 -- ---- answers
 
@@ -240,26 +309,25 @@ module _ (widening : Widening) (cells : Entries) (items : List Item) (default : 
         → find text_cmp e.0.1 (live cells e.0.0) ≡ Some e.1
     label_of e answer = elim answer [ inl matched ↦ matched.1 | inr chosen ↦ chosen.3 ]
 
-    answered_id : (messages : List LiveMessage) → AreMessages cells messages → (e : Labelled)
+    answered_id : (messages : List LiveMessage) → HasMessages cells messages → (e : Labelled)
         → IsAnswer widening cells items default e → Contains (ids_of messages) e.0.0
     answered_id messages are e answer =
         id_there e.0.0 messages (λ none.
-        let nothing : live cells e.0.0 ≡ [] =
-        no_labels (live cells e.0.0) (sym (are.each e.0.0) ∙ none) in
+        let nothing : live cells e.0.0 ≡ [] = are.rest e.0.0 none in
         let no : None ≡ Some e.1 = ap (find text_cmp e.0.1) (sym nothing) ∙ label_of e answer in cc)
 
-    bundle_of : (messages : List LiveMessage) (labels : List Labelled) → AreMessages cells messages
+    bundle_of : (messages : List LiveMessage) (labels : List Labelled) → HasMessages cells messages
         → LooksUp widening items default messages labels
         → IsBundleBy widening cells items default labels
     bundle_of messages labels are all =
-        let each = are_live cells messages are in record {
+        record {
           ascending = answers_ascend messages labels are.ascend all;
           answered =
               λ e. (
                 λ at.
-                    each_answered messages labels each all e at,
+                    each_answered messages labels are.each all e at,
                 λ answer. answers_there messages labels
-                    each all e answer (answered_id messages are e answer),
+                    are.each all e answer (answered_id messages are e answer),
               );
         }
 
@@ -270,7 +338,7 @@ module _ (widening : Widening) (cells : Entries) (items : List Item) (default : 
 pub record IsBundling (widening : Widening) (cells : Entries) (items : List Item)
     (default : Option (List ℕ)) (draft : Draft) (left : List LiveMessage) : Type 0 where
   pub messages : List LiveMessage
-  pub are : AreMessages cells messages
+  pub are : HasMessages cells messages
   pub done : List Labelled
   pub written : HasWritten draft done
   pub looks : (rest : List Labelled) → LooksUp widening items default left rest
@@ -280,7 +348,7 @@ module _ (widening : Widening) (cells : Entries) (items : List Item) (default : 
   where
     -- at first nothing is written, and all messages are left
     pub bundling_first : (draft : Draft) (messages : List LiveMessage)
-        → AreMessages cells messages → HasWritten draft []
+        → HasMessages cells messages → HasWritten draft []
         → IsBundling widening cells items default draft messages
     bundling_first draft messages are written = record {
       messages = messages;
@@ -352,20 +420,46 @@ module _ (widening : Widening) (cells : Entries) (items : List Item) (default : 
 
 -- ---- a list that is cut to the languages of the catalogue
 
--- what a message answers by a list that is cut to the languages it answers by the whole list
+-- what a message answers by a list that is cut to the languages it answers by the whole list, over
+-- those of its labels that are offered
 pub shortlisted : (widening : Widening) (cells : Entries) (items : List Item)
-    (langs : LanguageMap) (s : Shortlist) (m : LiveMessage) (default : Option (List ℕ))
-    (reply : Reply) (texts : List (List ℕ)) → IsShortlist items widening texts s
+    (langs : LanguageMap) (s : Shortlist) (m : LiveMessage) (labels : Texts)
+    (default : Option (List ℕ)) (reply : Reply) (texts : List (List ℕ))
+    → IsShortlist items widening texts s
     → texts ≡ texts_in langs → AreLanguages cells langs → m.1 ≡ live cells m.0
-    → (AreAmong (languages m.1) s.langs → IsLookedUpIn s.widening m.1 s.items default reply)
-    → IsLookedUpIn widening m.1 items default reply
-shortlisted widening cells items langs s m default reply texts is all are same found =
+    → (AreAmong (languages m.1) s.langs → IsLookedUpIn s.widening labels s.items default reply)
+    → IsLookedUpIn widening labels items default reply
+shortlisted widening cells items langs s m labels default reply texts is all are same found =
     let among = subst (λ (l : Texts). AreAmong (languages l) (texts_in langs)) (sym same)
     (live_among cells langs are m.0) in
     let own = subst (AreAmong (languages m.1)) (sym (is.langs_are ∙ all)) among in
-    subst (λ (w : Widening). IsLookedUpIn w m.1 items default reply) is.widening_is
-    (subst (λ (i : List Item). IsLookedUpIn s.widening m.1 i default reply) is.items_are
+    subst (λ (w : Widening). IsLookedUpIn w labels items default reply) is.widening_is
+    (subst (λ (i : List Item). IsLookedUpIn s.widening labels i default reply) is.items_are
     (found own))
+
+-- ---- all is offered
+
+-- Where all is offered, the bundle is that of all labels.
+pub bundled_all : (bytes : List ℕ) (items : List Item) (default : Option (List ℕ)) (doc : List ℕ)
+    (found : Bool) → IsBundledUnder all_items Off bytes items default doc found
+    → IsBundled bytes items default doc found
+bundled_all bytes items default doc found h = (
+  h.0,
+  h.1,
+  h.2,
+  subst (λ (cells : Entries). IsBundleBy Off cells items default h.1) (all_cells h.0.cells) h.3,
+  h.4,
+)
+
+-- The same of what a call answers, with its refusals.
+pub bundled_result : {E : Type 0} (bytes : List ℕ) (items : List Item)
+    (default : Option (List ℕ)) (r : Result (List ℕ × Bool) E) (Refuses : E → Type 0)
+    → MatchResult r
+    (λ answer. IsBundledUnder all_items Off bytes items default answer.0 answer.1) Refuses
+    → MatchResult r (λ answer. IsBundled bytes items default answer.0 answer.1) Refuses
+bundled_result bytes items default (Ok answer) Refuses h =
+    bundled_all bytes items default answer.0 answer.1 h
+bundled_result bytes items default (Err fault) Refuses h = h
 
 -- ---- they are live labels
 

@@ -7,5 +7,6 @@ pub mod DraftLemmas
 pub mod ExportingLemmas
 pub mod LinesLemmas
 pub mod LiveCellsLemmas
+pub mod OfferedCellsLemmas
 pub mod OneMessageLemmas
 pub mod StatusCountsLemmas

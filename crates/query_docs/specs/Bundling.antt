@@ -8,6 +8,7 @@ use Rattle.nego_core.specs.declared.widening.Widening.TheVariants.{Off}
 use Rattle.catalogue.specs.Asking.{IsLookupAnswerBy}
 use Rattle.cell_core.specs.Entry.{key_cmp}
 use Rattle.catalogue.specs.Entries.{Entries}
+use Rattle.catalogue.specs.EntriesOffered.{offered_cells}
 use Rattle.cata_core.specs.Site.{SiteState}
 use Rattle.catalogue.specs.declared.reply.Reply.TheVariants.{Default, Matched}
 use Rattle.site_docs.specs.Reading.{ReadsAsSite}
@@ -30,12 +31,17 @@ pub record IsBundleBy (widening : Widening) (cells : Entries) (items : List Item
 abbrev pub IsBundle : Entries → List Item → Option (List ℕ) → List Labelled → Type 0
 IsBundle = IsBundleBy Off
 
--- the language maps of these labels of the site, and whether there is one
-abbrev pub IsBundledBy : Widening → List ℕ → List Item → Option (List ℕ) → List ℕ → Bool → Type 0
-IsBundledBy widening bytes items default doc found =
+-- the language maps of these labels of the site without those that are not offered, and whether
+-- there is one
+abbrev pub IsBundledUnder : List Item → Widening → List ℕ → List Item → Option (List ℕ) → List ℕ
+    → Bool → Type 0
+IsBundledUnder offer widening bytes items default doc found =
     (site : SiteState) × (labels : List Labelled) × ReadsAsSite bytes site
-    × IsBundleBy widening site.cells items default labels × AreWritten labels doc found
+    × IsBundleBy widening (offered_cells offer site.cells) items default labels
+    × AreWritten labels doc found
 
--- the same by RFC 4647 section 3.4
+-- the same of all labels, by RFC 4647 section 3.4
 abbrev pub IsBundled : List ℕ → List Item → Option (List ℕ) → List ℕ → Bool → Type 0
-IsBundled = IsBundledBy Off
+IsBundled bytes items default doc found =
+    (site : SiteState) × (labels : List Labelled) × ReadsAsSite bytes site
+    × IsBundle site.cells items default labels × AreWritten labels doc found

@@ -10,6 +10,7 @@ pub mod Lines
 pub mod LiveCells
 pub mod LiveCellsLookup
 pub mod Missing
+pub mod OfferedCells
 pub mod OneMessage
 pub mod Outdated
 pub mod Status

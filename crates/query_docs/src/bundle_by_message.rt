@@ -4,15 +4,17 @@ ghost use Rattle.json_docs.specs.FaultChecks.{OrMemory};
 ghost use Rattle.row_docs.specs.Reading.{IsOfDocument, no_memory};
 ghost use Rattle.site_docs.specs.Reading.{RefusesSite};
 ghost use Rattle.query_docs.specs.BundleByMessage.{HasBundled};
-ghost use Rattle.query_docs.specs.Bundling.{IsBundledBy};
+ghost use Rattle.query_docs.specs.Bundling.{IsBundledUnder};
+ghost use Rattle.nego_core.specs.Offer.{items_of};
 
 use crate::by_message::{ByMessage, MessageCell, MessageSink};
 use crate::draft::Draft;
 use crate::live_cells::LiveCells;
+use crate::offered_cells::OfferedCells;
 use cell_core::MessageId;
 use json_docs::{Doc, DocFault};
 use lang_core::Lang;
-use nego_core::{PriorityList, Widening};
+use nego_core::{Offer, PriorityList, Widening};
 use site_docs::show_document;
 use std::alloc::{AllocError, Global};
 
@@ -21,13 +23,14 @@ use std::alloc::{AllocError, Global};
 pub(crate) fn bundle_by_message(
     alloc: Global,
     site: &[u8],
+    offer: Offer<'_>,
     list: &PriorityList,
     widening: Widening,
     default: Option<&Lang>,
 ) -> Result<(Doc, bool), DocFault>
-    ensures { MatchResult result (λ answer. IsBundledBy widening site.now list.now (option_map
-        (λ l. l.now) default.entry) answer.0 answer.1) (OrMemory no_memory (IsOfDocument 1
-        (RefusesSite site.now))) }
+    ensures { MatchResult result (λ answer. IsBundledUnder (items_of offer.entry) widening site.now
+        list.now (option_map (λ l. l.now) default.entry) answer.0 answer.1)
+        (OrMemory no_memory (IsOfDocument 1 (RefusesSite site.now))) }
 {
     let bundle = Bundle {
         list,
@@ -35,9 +38,13 @@ pub(crate) fn bundle_by_message(
         default,
         draft: Draft::new(alloc)?,
     };
-    let start = ByMessage::new(alloc, bundle);
+    let start = OfferedCells {
+        offer,
+        sink: ByMessage::new(alloc, bundle),
+    };
     let (_, shown) = show_document(alloc, 1, site, &start)?;
-    let bundle = shown.finish(alloc)?;
+    let OfferedCells { sink, .. } = shown;
+    let bundle = sink.finish(alloc)?;
     let Bundle { draft, .. } = bundle;
     let answer = draft.close()?;
     Ok(answer)

@@ -24,6 +24,7 @@ mod lines;
 mod live_cells;
 mod messages;
 mod missing;
+mod offered_cells;
 mod one_message;
 mod outdated;
 mod status;

@@ -6,7 +6,7 @@ use super::words::{gives, gives_in};
 use cata_core::{Catalogue, Entries, Labels, LentEntries, Message, list_languages};
 use cell_core::MessageId;
 use lang_core::Lang;
-use nego_core::{PriorityList, Scheme, Shortlist, Widening};
+use nego_core::{Offer, PriorityList, Scheme, Shortlist, Widening};
 use std::alloc::{AllocError, Global};
 use std::test::Fail;
 
@@ -118,7 +118,7 @@ fn found_by(
     widening: Widening,
     default: Option<&Lang>,
 ) -> Result<String, AllocError> {
-    let reply = held.ask_lookup_by(id, list, widening, default);
+    let reply = held.ask_lookup_by(id, Offer::All, list, widening, default);
     shown::reply(alloc, &reply.copy(alloc)?)
 }
 
@@ -141,7 +141,7 @@ fn found_within(
     shortlist: &Shortlist,
     default: Option<&Lang>,
 ) -> Result<String, AllocError> {
-    let reply = message.lookup_within(shortlist, default);
+    let reply = message.lookup_within(Offer::All, shortlist, default);
     shown::reply(alloc, &reply.copy(alloc)?)
 }
 

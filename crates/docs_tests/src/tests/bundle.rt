@@ -2,7 +2,7 @@
 
 use super::answers::is_found;
 use docs_core::{Doc, DocFault, bundle_document_by, read_site, write_bundle, write_bundle_by};
-use nego_core::{PriorityList, Scheme, Widening};
+use nego_core::{Offer, PriorityList, Scheme, Widening};
 use std::alloc::Global;
 use std::test::Fail;
 
@@ -18,13 +18,14 @@ fn in_memory(
     widening: Widening,
 ) -> Result<(Doc, bool), DocFault> {
     let site = read_site(alloc, REGIONS)?;
-    Ok(write_bundle_by(alloc, site.catalogue(), list, widening, None)?)
+    let cells = site.catalogue();
+    Ok(write_bundle_by(alloc, cells, Offer::All, list, widening, None)?)
 }
 
 /// Whether a reader with this field gets this of labels of regions, also of the site in memory.
 fn is_bundle(alloc: Global, field: &str, widening: Widening, line: &str) -> Result<bool, Fail> {
     let list = PriorityList::from_accept(alloc, field.as_bytes())?;
-    let bundle = bundle_document_by(alloc, REGIONS, &list, widening, None);
+    let bundle = bundle_document_by(alloc, REGIONS, Offer::All, &list, widening, None);
     Ok(is_found(bundle, line) && is_found(in_memory(alloc, &list, widening), line))
 }
 

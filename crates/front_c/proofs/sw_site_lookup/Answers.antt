@@ -3,7 +3,7 @@ use Rattle.front_core.specs.Preferences.{field_text}
 use Rattle.front_core.specs.Ask.{AnswersLookup, IsLookup, RefusesLookup}
 use Rattle.front_c.specs.Calls.{ReportsQuestion}
 use Rattle.front_c.specs.Handles.{site_of}
-use Rattle.front_c.specs.Question.{default_of, lookup_field_of}
+use Rattle.front_c.specs.Question.{default_of, lookup_field_of, offer_of}
 use Rattle.front_c.proofs.ReportingAskedLemmas.{asked_as, field_as}
 use Rattle.front_c.proofs.sw_site_lookup.Goals as goal
 
@@ -11,12 +11,14 @@ pub returns-in-Some-clause-answer : goal.returns-in-Some-clause-answer
 returns-in-Some-clause-answer c =
     let site = site_of c.args.site.now in
     let id = c.args.id.now in
+    let offers = offer_of c.args.offer.now in
     let default = default_of c.args.default.now in
     let read = field_text c.in-Some.field in
     field_as (lookup_field_of c.args.flags c.args.field.now)
-    (λ f. ReportsQuestion site (IsLookup id f default) (RefusesLookup id f default)
+    (λ f. ReportsQuestion site (IsLookup id offers f default) (RefusesLookup id offers f default)
     (λ asked s. AnswersLookup s.cells asked))
     read c.args.out.now c.ask.new.out c.ask.new.told _ (search rules)
-    (asked_as c.read-asked.result (IsLookup id read default) (RefusesLookup id read default)
+    (asked_as c.read-asked.result (IsLookup id offers read default)
+    (RefusesLookup id offers read default)
     (λ asked s. AnswersLookup s.cells asked) site c.args.out.now c.ask.new.out c.ask.new.told _
-    (rw (← c.default_of.ensures) c.read-asked.ensures) (search rules))
+    (rw (← c.default_of.ensures, ← c.offering_of.ensures) c.read-asked.ensures) (search rules))

@@ -1,6 +1,7 @@
 //! Bundles for readers with priorities.
 
-use front_core::{Answer, Field, FrontFault, OpenSite, Outcome, Preferences, Question, SiteIn};
+use crate::tests::offers::ALL;
+use front_core::{Answer, Field, FrontFault, OpenSite, Outcome, Question, Reader, SiteIn};
 use nego_core::{Malformed, Scheme, Widening};
 use std::alloc::Global;
 use std::process::Abort;
@@ -28,7 +29,7 @@ fn bundled(
     field: Field<'_>,
     default: Option<&[u8]>,
 ) -> Result<Answer, FrontFault> {
-    Preferences::read(alloc, field, default)?.answer(alloc, site)
+    Reader::read(alloc, ALL, field, default)?.answer(alloc, site)
 }
 
 fn is_answer(answer: Result<Answer, FrontFault>, text: &str, outcome: Outcome) -> bool {

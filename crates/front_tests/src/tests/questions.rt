@@ -1,5 +1,6 @@
 //! Questions to a site: the lines and the texts that answer them.
 
+use crate::tests::offers::ALL;
 use front_core::{
     Answer, Field, Filter, FrontFault, LabelText, Lookup, OpenSite, Outcome, Question, SiteIn,
 };
@@ -35,7 +36,7 @@ fn is_answer(answer: Result<Answer, FrontFault>, text: &str, outcome: Outcome) -
 }
 
 fn looked_up(alloc: Global, field: &str, site: SiteIn<'_>) -> Result<Answer, FrontFault> {
-    Lookup::read(alloc, b"m", accept(field), Some(b"fr"))?.answer(alloc, site)
+    Lookup::read(alloc, b"m", ALL, accept(field), Some(b"fr"))?.answer(alloc, site)
 }
 
 /// A lookup of `m` by this field, with `fr` as its default, has this line.
@@ -90,7 +91,7 @@ fn assert_text(
     wanted: LabelText<'_>,
 ) {
     let id = asked.id.as_bytes();
-    match Lookup::read(alloc, id, accept(asked.field), asked.default) {
+    match Lookup::read(alloc, id, ALL, accept(asked.field), asked.default) {
         Ok(lookup) => assert_eq!(rt; lookup.text(site.site(), place), wanted),
         Err(fault) => panic!(rt; "{fault}"),
     }
@@ -151,7 +152,7 @@ fn assert_lines(
     outcome: Outcome,
 ) -> Result<(), Fail> {
     let open = questions(alloc)?;
-    let asked = Filter::read(alloc, id.as_bytes(), field)?;
+    let asked = Filter::read(alloc, id.as_bytes(), ALL, field)?;
     for site in [SiteIn::Open(open.site()), SiteIn::Document(SITE)] {
         let answer = asked.answer(alloc, site);
         assert!(rt; is_answer(answer, lines, outcome), "{lines}");

@@ -1,10 +1,11 @@
 //! What is refused, in which order, and how it is reported.
 
+use crate::tests::offers::ALL;
 use cell_core::CellFault;
 use docs_core::{DocCause, DocFault, FieldFault, Spot};
 use front_core::{
-    Field, Filter, FrontFault, Lookup, Missing, OpenSite, Outdated, Preferences, Question, SiteIn,
-    View, pick,
+    Field, Filter, FrontFault, Lookup, Missing, OpenSite, Outdated, Question, Reader, SiteIn, View,
+    pick,
 };
 use lang_core::LangFault;
 use nego_core::{Malformed, NegoFault, Scheme, Widening};
@@ -68,16 +69,16 @@ fn a_subtag_is_named_by_its_place(rt: HostRuntime) {
 #[test]
 fn a_long_field(rt: HostRuntime) {
     let field = accept([b','; 65_536].as_slice());
-    let read = Preferences::read(rt.alloc(), field, None);
+    let read = Reader::read(rt.alloc(), ALL, field, None);
     assert_refused(&rt, read, FrontFault::Field(NegoFault::FieldTooLong));
 }
 
 #[test]
 fn an_id_before_all_else(rt: HostRuntime) {
     let alloc = rt.alloc();
-    let lookup = Lookup::read(alloc, b"@m", malformed(), Some(b"e"));
+    let lookup = Lookup::read(alloc, b"@m", ALL, malformed(), Some(b"e"));
     assert_refused(&rt, lookup, ID);
-    assert_refused(&rt, Filter::read(alloc, b"@m", malformed()), ID);
+    assert_refused(&rt, Filter::read(alloc, b"@m", ALL, malformed()), ID);
 }
 
 #[test]
@@ -88,13 +89,21 @@ fn a_lookup_in_order(rt: HostRuntime) {
         (b"m", Some(b"e"), LANGUAGE),
         (b"m", None, FIELD),
     ] {
-        assert_refused(&rt, Lookup::read(alloc, id, malformed(), default), fault);
+        assert_refused(
+            &rt,
+            Lookup::read(alloc, id, ALL, malformed(), default),
+            fault,
+        );
     }
 }
 
 #[test]
 fn an_id_that_is_no_text(rt: HostRuntime) {
-    assert_refused(&rt, Filter::read(rt.alloc(), b"m\xff", accept(b"fr")), ID);
+    assert_refused(
+        &rt,
+        Filter::read(rt.alloc(), b"m\xff", ALL, accept(b"fr")),
+        ID,
+    );
 }
 
 #[test]

@@ -1,8 +1,8 @@
 //! Lookups that are widened, by the rows of the specification.
 
+use crate::tests::offers::ALL;
 use front_core::{
-    Answer, Field, FrontFault, Lookup, OpenSite, Outcome, Picked, Preferences, Question, SiteIn,
-    pick,
+    Answer, Field, FrontFault, Lookup, OpenSite, Outcome, Picked, Question, Reader, SiteIn, pick,
 };
 use nego_core::{Malformed, Scheme, Widening};
 use std::process::Abort;
@@ -51,8 +51,8 @@ fn a_site(rt: HostRuntime) -> Result<(), Fail> {
     let field = widened(Scheme::Basic, "en, fr;q=0.5");
     let line = "matched en-us [\"Hi\"]\n";
     let maps = "{\"m\":{\"en-us\":\"Hi\"},\"n\":{\"fr\":\"Non\"}}\n";
-    let lookup = Lookup::read(alloc, b"m", field, None)?;
-    let bundle = Preferences::read(alloc, field, None)?;
+    let lookup = Lookup::read(alloc, b"m", ALL, field, None)?;
+    let bundle = Reader::read(alloc, ALL, field, None)?;
     for site in [SiteIn::Open(open.site()), SiteIn::Document(SITE)] {
         assert_line(&rt, lookup.answer(alloc, site), line, Outcome::Found);
         assert_line(&rt, bundle.answer(alloc, site), maps, Outcome::Found);

@@ -1,5 +1,6 @@
 //! Questions to the document of a site where it lies, and what bytes are taken for its rows.
 
+use crate::tests::offers::ALL;
 use front_core::{Answer, Field, Filter, FrontFault, LabelText, Lookup, Outcome, message_in};
 use nego_core::{Malformed, Scheme, Widening};
 use std::alloc::Global;
@@ -37,7 +38,7 @@ fn is_line(answer: Result<Answer, FrontFault>, text: &str, outcome: Outcome) -> 
 }
 
 fn looked_up(alloc: Global, text: &[u8], id: &str, field: &str) -> Result<Answer, FrontFault> {
-    Lookup::read(alloc, id.as_bytes(), accept(field), None)?.answer_in(alloc, text)
+    Lookup::read(alloc, id.as_bytes(), ALL, accept(field), None)?.answer_in(alloc, text)
 }
 
 /// A lookup has this line, with the last line feed of the document and without.
@@ -93,7 +94,7 @@ fn nothing_of_other_ids_and_deletions(rt: HostRuntime) -> Result<(), Fail> {
 #[test]
 fn lines_of_a_filter(rt: HostRuntime) -> Result<(), Fail> {
     let alloc = rt.alloc();
-    let asked = Filter::read(alloc, b"c", accept("fr;q=0.5, *;q=0.1"))?;
+    let asked = Filter::read(alloc, b"c", ALL, accept("fr;q=0.5, *;q=0.1"))?;
     let lines = "filter 1\nfr 500 [\"trois\"]\n";
     assert!(rt; is_line(asked.answer_in(alloc, TEXT), lines, Outcome::Found));
     Ok(())
@@ -102,7 +103,7 @@ fn lines_of_a_filter(rt: HostRuntime) -> Result<(), Fail> {
 #[test]
 fn a_text_at_a_place(rt: HostRuntime) -> Result<(), Fail> {
     let alloc = rt.alloc();
-    let asked = Lookup::read(alloc, b"a", accept("de"), None)?;
+    let asked = Lookup::read(alloc, b"a", ALL, accept("de"), None)?;
     let part = message_in(alloc, TEXT, &asked.id)?;
     let found = LabelText::Found {
         text: ",",

@@ -1,7 +1,9 @@
 use Rattle.std.proofs.Common.{◌≡◌, refl, rules}
 use Rattle.std.specs.Prelude.{Ok, option_map}
 use Rattle.front_core.specs.Exchange.{ShowsView}
-use Rattle.front_core.specs.Preferences.{field_text, ArePreferences, RefusesPreferences}
+use Rattle.front_core.specs.Offering.{offers_of}
+use Rattle.front_core.specs.Preferences.{field_text}
+use Rattle.front_core.specs.Reader.{IsReader, RefusesReader}
 use Rattle.front_core.specs.Ask.{AnswersBundle, AnswersFilter, AnswersLookup, IsFilter, IsLookup}
 use Rattle.front_core.specs.Ask.{RefusesFilter, RefusesLookup}
 use Rattle.front_core.specs.Translate.{AnswersMissing, AnswersOutdated, IsMissing, IsOutdated}
@@ -61,28 +63,32 @@ returns g c =
       | in-Changes w ↦ rw (w.in-Changes.is, w.reader-is, w.answered-is) w.changes-answered.ensures
       | in-Filter w ↦
           let id = w.in-Filter.id.now in
+          let offers = offers_of w.in-Filter.offering in
           let field = field_text w.in-Filter.field in
           rw (w.in-Filter.is, w.reader-is, w.answered-is)
-          (asks_as w.read-in-Filter.result (IsFilter id field) (RefusesFilter id field)
+          (asks_as w.read-in-Filter.result (IsFilter id offers field)
+          (RefusesFilter id offers field)
           w.read-in-Filter.ensures (λ it site. AnswersFilter site.cells it)
           (reader_at w.ask-answered-in-Filter.new.reader) w.ask-answered-in-Filter.result
           w.ask-answered-in-Filter.ensures)
       | in-Lookup w ↦
           let id = w.in-Lookup.id.now in
-          let field = field_text w.in-Lookup.values.field in
-          let default = option_map (λ s. s.now) w.in-Lookup.values.default in
+          let offers = offers_of w.in-Lookup.values.offering in
+          let field = field_text w.in-Lookup.values.preferences.field in
+          let default = option_map (λ s. s.now) w.in-Lookup.values.preferences.default in
           rw (w.in-Lookup.is, w.reader-is, w.answered-is)
-          (asks_as w.read-asked.result (IsLookup id field default)
-          (RefusesLookup id field default) w.read-asked.ensures
+          (asks_as w.read-asked.result (IsLookup id offers field default)
+          (RefusesLookup id offers field default) w.read-asked.ensures
           (λ it site. AnswersLookup site.cells it)
           (reader_at w.ask-answered-in-Lookup.new.reader) w.ask-answered-in-Lookup.result
           w.ask-answered-in-Lookup.ensures)
       | in-Bundle w ↦
-          let field = field_text w.in-Bundle.values.field in
-          let default = option_map (λ s. s.now) w.in-Bundle.values.default in
+          let offers = offers_of w.in-Bundle.values.offering in
+          let field = field_text w.in-Bundle.values.preferences.field in
+          let default = option_map (λ s. s.now) w.in-Bundle.values.preferences.default in
           rw (w.in-Bundle.is, w.reader-is, w.answered-is)
-          (asks_as w.read-asked-in-Bundle.result (ArePreferences field default)
-          (RefusesPreferences field default) w.read-asked-in-Bundle.ensures
+          (asks_as w.read-asked-in-Bundle.result (IsReader offers field default)
+          (RefusesReader offers field default) w.read-asked-in-Bundle.ensures
           (λ it site. AnswersBundle site.cells it)
           (reader_at w.ask-answered-in-Bundle.new.reader) w.ask-answered-in-Bundle.result
           w.ask-answered-in-Bundle.ensures)

@@ -1,6 +1,8 @@
 use Rattle.std.proofs.Common.{subst}
 use Rattle.std.specs.Prelude.{option_map}
+use Rattle.nego_core.specs.Offer.{items_of}
 use Rattle.catalogue.specs.Entries.{Entries}
+use Rattle.catalogue.specs.EntriesOffered.{offered_cells}
 use Rattle.query_docs.specs.Bundling.{IsBundleBy}
 use Rattle.query_docs.proofs.bundling.bundle_document_by.Goals as goal
 
@@ -11,8 +13,8 @@ returns c =
       c.in_ok-site.site,
       wrote.0,
       c.in_ok-site.ensures,
-      subst (λ
-          (cells : Entries). IsBundleBy c.args.widening cells c.args.list.now default wrote.0)
+      subst (λ (cells : Entries). IsBundleBy c.args.widening
+          (offered_cells (items_of c.args.offer) cells) c.args.list.now default wrote.0)
           c.catalogue.ensures wrote.1,
       wrote.2,
     )
