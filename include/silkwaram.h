@@ -26,7 +26,7 @@
  *   copied: two copies count as one handle, and only one of them may be used from then on.
  * - Of the handles of one site one edits, and the others ask: two that both edit would be two sites of one name.
  * - A handle begins as zeros (`sw_site site = {0};`), and then is changed by these calls alone.
- * - The thread has 128 KiB of stack left for a call (docs/LIBRARY.md has what each takes); a smaller one may overflow.
+ * - The thread has 128 KiB of stack left for a call; a smaller one may overflow.
  * - No call is made from a signal handler. After a fork the child opens sites of its own.
  * - malloc, realloc and free are those of one allocator, which aligns blocks as the C standard asks. */
 #ifndef SILKWARAM_H
@@ -115,34 +115,47 @@ int32_t sw_pick(uint32_t flags, const uint8_t *field, size_t field_len, const ui
  *                tag (3) */
 int32_t sw_site_open(const uint8_t *text, size_t text_len, sw_site *site, sw_told *told);
 
-/* The label of a message that a reader gets (RFC 4647 section 3.4), over the languages in which the message has one.
+/* ---- What readers are offered.
+ *
+ * A site has more than is published: notes of translators in languages of private use (x-note), a translation that is
+ * not done yet. So each question of a reader takes an `offer`. It is answered as that question of the site without the
+ * labels that are not offered; a default is answered only if it is offered too.
+ * An offer of length 0 stands for `*, x;q=0`: all languages but those of private use. Any other is a field that is read
+ * as an Accept-Language field is, without SW_LENIENT. It offers a language if filtering by it takes the language (RFC
+ * 4647 section 3.3.1): `*` all, `en, fr` these and what they begin, `*, ja;q=0` all but Japanese. Labels without a
+ * language, `@none`, are always offered. */
+
+/* The label of a message that a reader gets (RFC 4647 section 3.4), over the languages that are offered and in which
+ * the message has one.
  * `id` is the message, `dflt` as in sw_pick. The answer is the line of the command `lookup`, with its LF: `matched
  * LANGUAGE LABEL`, `default LANGUAGE LABEL` or `nothing`, where LABEL is a JSON array of the label's texts.
  *   SW_FOUND     a label is found
  *   SW_NOTHING   none is; the answer is the line `nothing`
  *   SW_USAGE     also if the handle is not open
- *   SW_REFUSED   first the id (10, also if it is not UTF-8), then the default (1 to 4), then the field (8, 9)
+ *   SW_REFUSED   first the id (10, also if it is not UTF-8), then the default (1 to 4), then the offer and
+ *                the field (8, 9)
  * A message that the site does not have is SW_NOTHING. */
-int32_t sw_site_lookup(sw_site *site, uint32_t flags, const uint8_t *id, size_t id_len, const uint8_t *field,
-                       size_t field_len, const uint8_t *dflt, size_t dflt_len, uint8_t *out, size_t out_len,
-                       sw_told *told);
+int32_t sw_site_lookup(sw_site *site, const uint8_t *offer, size_t offer_len, uint32_t flags, const uint8_t *id,
+                       size_t id_len, const uint8_t *field, size_t field_len, const uint8_t *dflt, size_t dflt_len,
+                       uint8_t *out, size_t out_len, sw_told *told);
 
 /* One text of the label that sw_site_lookup finds, as it is: UTF-8, without quotes and without an LF. A label has 1 to
  * 64 texts, each of at most 65,535 bytes, and mostly one: that at `place` 0. told->count is how many the label has.
  *   SW_FOUND     a label is found and has a text at this place
  *   SW_NOTHING   no label is found, or it has no text there (told->count says which); told->len is 0
  *   SW_USAGE, SW_REFUSED   as sw_site_lookup */
-int32_t sw_site_text(sw_site *site, uint32_t flags, const uint8_t *id, size_t id_len, const uint8_t *field,
-                     size_t field_len, const uint8_t *dflt, size_t dflt_len, size_t place, uint8_t *out, size_t out_len,
-                     sw_told *told);
+int32_t sw_site_text(sw_site *site, const uint8_t *offer, size_t offer_len, uint32_t flags, const uint8_t *id,
+                     size_t id_len, const uint8_t *field, size_t field_len, const uint8_t *dflt, size_t dflt_len,
+                     size_t place, uint8_t *out, size_t out_len, sw_told *told);
 
 /* The labels of a message that a reader takes, best first (RFC 4647 section 3.3). The answer has the lines of the
  * command `filter`, with their LFs: `filter N`, then N lines `LANGUAGE WEIGHT LABEL`, the weight in thousandths.
  *   SW_FOUND     there is at least one
  *   SW_NOTHING   there is none; the answer is the line `filter 0`
  *   SW_USAGE, SW_REFUSED   as sw_site_lookup, without the default */
-int32_t sw_site_filter(sw_site *site, uint32_t flags, const uint8_t *id, size_t id_len, const uint8_t *field,
-                       size_t field_len, uint8_t *out, size_t out_len, sw_told *told);
+int32_t sw_site_filter(sw_site *site, const uint8_t *offer, size_t offer_len, uint32_t flags, const uint8_t *id,
+                       size_t id_len, const uint8_t *field, size_t field_len, uint8_t *out, size_t out_len,
+                       sw_told *told);
 
 /* The same three questions to the document of a site where it lies, which is not opened: `text` is what sw_site_write or
  * `lexicat` writes for the site, with its last LF or without, of any length, for example a mapped file. The rows of the
@@ -157,14 +170,15 @@ int32_t sw_site_filter(sw_site *site, uint32_t flags, const uint8_t *id, size_t 
  * document in another form, and for what strangers send. No call reads outside of `text`, whatever its bytes are.
  * Replace a mapped file by a new one that is renamed to it, as lexicat-file does, and never write into it: if it is cut
  * while it is mapped, the system ends the process (SIGBUS). */
-int32_t sw_text_lookup(const uint8_t *text, size_t text_len, uint32_t flags, const uint8_t *id, size_t id_len,
-                       const uint8_t *field, size_t field_len, const uint8_t *dflt, size_t dflt_len, uint8_t *out,
-                       size_t out_len, sw_told *told);
-int32_t sw_text_text(const uint8_t *text, size_t text_len, uint32_t flags, const uint8_t *id, size_t id_len,
-                     const uint8_t *field, size_t field_len, const uint8_t *dflt, size_t dflt_len, size_t place,
-                     uint8_t *out, size_t out_len, sw_told *told);
-int32_t sw_text_filter(const uint8_t *text, size_t text_len, uint32_t flags, const uint8_t *id, size_t id_len,
-                       const uint8_t *field, size_t field_len, uint8_t *out, size_t out_len, sw_told *told);
+int32_t sw_text_lookup(const uint8_t *text, size_t text_len, const uint8_t *offer, size_t offer_len,
+                       uint32_t flags, const uint8_t *id, size_t id_len, const uint8_t *field, size_t field_len,
+                       const uint8_t *dflt, size_t dflt_len, uint8_t *out, size_t out_len, sw_told *told);
+int32_t sw_text_text(const uint8_t *text, size_t text_len, const uint8_t *offer, size_t offer_len, uint32_t flags,
+                     const uint8_t *id, size_t id_len, const uint8_t *field, size_t field_len, const uint8_t *dflt,
+                     size_t dflt_len, size_t place, uint8_t *out, size_t out_len, sw_told *told);
+int32_t sw_text_filter(const uint8_t *text, size_t text_len, const uint8_t *offer, size_t offer_len,
+                       uint32_t flags, const uint8_t *id, size_t id_len, const uint8_t *field, size_t field_len,
+                       uint8_t *out, size_t out_len, sw_told *told);
 
 /* All labels of one reader: of each message the label that sw_site_lookup finds, under its language. The answer is the
  * JSON document of the command `bundle` with its LF: language maps, as {"greeting":{"fr":"Bonjour"}}.
@@ -173,8 +187,9 @@ int32_t sw_text_filter(const uint8_t *text, size_t text_len, uint32_t flags, con
  *   SW_FOUND     there is at least one label
  *   SW_NOTHING   there is none; the answer is the line `{}`
  *   SW_USAGE, SW_REFUSED   as sw_site_lookup, without the id */
-int32_t sw_site_bundle(sw_site *site, uint32_t flags, const uint8_t *field, size_t field_len, const uint8_t *dflt,
-                       size_t dflt_len, uint8_t *out, size_t out_len, sw_told *told);
+int32_t sw_site_bundle(sw_site *site, const uint8_t *offer, size_t offer_len, uint32_t flags, const uint8_t *field,
+                       size_t field_len, const uint8_t *dflt, size_t dflt_len, uint8_t *out, size_t out_len,
+                       sw_told *told);
 
 /* ---- Sites that are made and edited.
  *

@@ -1,7 +1,10 @@
 <?php
-// Nanoseconds of processor time of a question from PHP. usage: front.php SITE.json LIBRARY
+// Nanoseconds of processor time of a question from PHP. usage: front.php SITE.json
+// SILKWARAM_LIBRARY names the library.
 
-require __DIR__ . '/../../examples/front/Silkwaram.php';
+use Silkwaram\{Site, Tags};
+
+require __DIR__ . '/../../bindings/php/autoload.php';
 
 const FIELD = 'da, en-GB;q=0.8, en;q=0.7';
 const TAGS = ['en', 'fr', 'de', 'es', 'it', 'pt-BR', 'ja', 'zh-Hant'];
@@ -28,8 +31,8 @@ function measure(string $what, callable $call, int $calls): void
 }
 
 if (extension_loaded('ffi')) {
-    $site = new Silkwaram(file_get_contents($argv[1]), $argv[2]);
-    measure('`sw_pick` from PHP, by FFI', fn () => $site->pick(FIELD, TAGS), 20000);
+    $site = Site::open(file_get_contents($argv[1]));
+    measure('`sw_pick` from PHP, by FFI', fn () => Tags::pick(FIELD, TAGS), 20000);
     $call = fn () => $site->lookup('message-777', 'de-CH, fr;q=0.5', 'en');
     measure('`sw_site_lookup` from PHP, by FFI, 16,000 cells', $call, 20000);
 } else {

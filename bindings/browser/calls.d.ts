@@ -46,6 +46,16 @@ export interface LookupOptions extends FieldOptions {
   widen?: boolean;
 }
 
+export interface OfferOptions {
+  /**
+   * What readers are offered of a site, written as an Accept-Language header: the languages that filtering by it takes
+   * (RFC 4647 section 3.3.1), and labels without a language. `en, fr` offers these and what they begin, `*` all.
+   *
+   * @default all languages but those of private use, as `x-note`; null and an empty text stand for it
+   */
+  offer?: Text | null;
+}
+
 export interface TextOptions extends LookupOptions {
   /**
    * Which text of the label, from 0.
@@ -161,14 +171,17 @@ export class Refused extends Error {
  * declaration's block, or some time after nothing refers to it any more. Calls to a closed site throw an Error.
  */
 export interface Asked {
-  /** The label of a message that a reader gets, or null. Refused: the id (10), the default (1 to 4), the field (8, 9). */
-  lookup(id: Text, field: Field, options?: LookupOptions): Label | null;
+  /**
+   * The label of a message that a reader gets, or null. Refused: the id (10), the default (1 to 4), the offer and
+   * the field (8, 9).
+   */
+  lookup(id: Text, field: Field, options?: LookupOptions & OfferOptions): Label | null;
   /** The text at a place of the label that `lookup` finds, or null. */
-  text(id: Text, field: Field, options?: TextOptions): string | null;
+  text(id: Text, field: Field, options?: TextOptions & OfferOptions): string | null;
   /** The texts of the label that `lookup` finds, or null. */
-  texts(id: Text, field: Field, options?: LookupOptions): string[] | null;
-  /** The labels of a message that a reader takes, best first. Refused: the id (10), the field (8, 9). */
-  filter(id: Text, field: Field, options?: FieldOptions): Choice[];
+  texts(id: Text, field: Field, options?: LookupOptions & OfferOptions): string[] | null;
+  /** The labels of a message that a reader takes, best first. Refused: the id (10), the offer and the field (8, 9). */
+  filter(id: Text, field: Field, options?: FieldOptions & OfferOptions): Choice[];
   /** Lets the site go. Closing it again does nothing. */
   close(): void;
   /** Calls `close`. */
@@ -206,10 +219,10 @@ export interface Site extends Asked {
   share(): Site;
 
   /**
-   * All labels of one reader: of each message the one that `lookup` finds. Refused: the default (1 to 4), the field
-   * (8, 9).
+   * All labels of one reader: of each message the one that `lookup` finds. Refused: the default (1 to 4), the offer and
+   * the field (8, 9).
    */
-  bundle(field: Field, options?: LookupOptions): LanguageMaps;
+  bundle(field: Field, options?: LookupOptions & OfferOptions): LanguageMaps;
 
   /**
    * Puts a label of one text. Refused: the id (10), the language (1 to 4), the text (11, or 18 where it is not UTF-8);

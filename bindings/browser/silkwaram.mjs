@@ -121,6 +121,12 @@ function defaultOf(options) {
   return given === undefined || given === null ? '' : textOf(given, 'default');
 }
 
+// What readers are offered of a site; an empty text is all but languages of private use.
+function offerOf(options) {
+  const given = options.offer;
+  return given === undefined || given === null ? '' : textOf(given, 'offer');
+}
+
 // A line for each tag. An LF in a tag would make two tags of it: it becomes a zero, which no tag has.
 function linesOf(tags) {
   if (!Array.isArray(tags)) throw wrongType('tags', 'an array of strings');
@@ -471,14 +477,15 @@ const ask = Symbol('ask');
 class Asked {
   lookup(id, field, options) {
     const given = optionsOf(options);
-    const line = this[ask]('lookup', lookupFlagsOf(given), textOf(id, 'id'), fieldOf(field), defaultOf(given));
+    const words = [offerOf(given), lookupFlagsOf(given), textOf(id, 'id'), fieldOf(field), defaultOf(given)];
+    const line = this[ask]('lookup', ...words);
     return line === null ? null : labelOf(line);
   }
 
   text(id, field, options) {
     const given = optionsOf(options);
     const words = [lookupFlagsOf(given), textOf(id, 'id'), fieldOf(field), defaultOf(given), placeOf(given)];
-    return this[ask]('text', ...words);
+    return this[ask]('text', offerOf(given), ...words);
   }
 
   texts(id, field, options) {
@@ -486,7 +493,8 @@ class Asked {
   }
 
   filter(id, field, options) {
-    const lines = this[ask]('filter', flagsOf(optionsOf(options)), textOf(id, 'id'), fieldOf(field));
+    const given = optionsOf(options);
+    const lines = this[ask]('filter', offerOf(given), flagsOf(given), textOf(id, 'id'), fieldOf(field));
     return lines === null ? [] : linesIn(lines).map(choiceOf);
   }
 
@@ -508,7 +516,7 @@ function writtenSiteClass(calls) {
       forgotten.register(this, this.#kept, this);
       try {
         // (what is no document is refused by any question)
-        this[ask]('filter', 0, 'm', '*');
+        this[ask]('filter', '', 0, 'm', '*');
       } catch (refused) {
         this.close();
         throw refusedAsName(calls, refused, text);
@@ -578,8 +586,8 @@ function siteClass(calls) {
 
     bundle(field, options) {
       const given = optionsOf(options);
-      const words = [lookupFlagsOf(given), fieldOf(field), defaultOf(given)];
-      const document = calls.text('sw_site_bundle', this.#handle, ...words);
+      const words = [offerOf(given), lookupFlagsOf(given), fieldOf(field), defaultOf(given)];
+      const document = this[ask]('bundle', ...words);
       return document === null ? {} : JSON.parse(document);
     }
 

@@ -47,18 +47,21 @@ typedef struct {
 
 typedef struct {
     ngx_str_t                       tags;    /* each with an LF after it */
+    ngx_str_t                       offered; /* those of tags that offer has */
     ngx_str_t                       labels;  /* the text of a document */
+    ngx_str_t                       offer;   /* as a field has it */
     ngx_str_t                       dflt;
     ngx_http_silkwaram_dflt_t      *dflt_directive;
     ngx_flag_t                      lenient;
+    ngx_flag_t                      strict;
     ngx_flag_t                      widen;
-    ngx_uint_t                      checked; /* whether dflt is in tags */
+    ngx_uint_t                      checked; /* whether dflt is in offered */
 } ngx_http_silkwaram_loc_conf_t;
 
 
 typedef struct {
     ngx_http_silkwaram_loc_conf_t  *conf;    /* by which lang was picked */
-    ngx_str_t                       lang;    /* in its tags, empty for none */
+    ngx_str_t                       lang;    /* in its offered, or empty */
 } ngx_http_silkwaram_ctx_t;
 
 
@@ -216,9 +219,22 @@ ngx_http_silkwaram_pick(ngx_http_silkwaram_loc_conf_t *conf, ngx_str_t *field,
     u_char *lang, sw_told *told)
 {
     return sw_pick(ngx_http_silkwaram_flags(conf), field->data, field->len,
-                   conf->tags.data, conf->tags.len,
+                   conf->offered.data, conf->offered.len,
                    conf->dflt.data, conf->dflt.len,
                    lang, NGX_HTTP_SILKWARAM_TAG_LEN, told);
+}
+
+
+/*
+ * Whether to ask again, as if there were no field: a reader who excludes the
+ * default may get it all the same, as RFC 9110 section 12.5.4 allows.
+ */
+
+static ngx_uint_t
+ngx_http_silkwaram_asks_again(ngx_http_silkwaram_loc_conf_t *conf,
+    ngx_str_t *dflt, int32_t status)
+{
+    return status == SW_NOTHING && !conf->strict && dflt->len != 0;
 }
 
 
@@ -288,12 +304,16 @@ ngx_http_silkwaram_lang(ngx_http_request_t *r,
         kept = NULL;
         status = ngx_http_silkwaram_pick(conf, &ngx_http_silkwaram_any, tag,
                                          &told);
+
+    } else if (ngx_http_silkwaram_asks_again(conf, &conf->dflt, status)) {
+        status = ngx_http_silkwaram_pick(conf, &ngx_http_silkwaram_any, tag,
+                                         &told);
     }
 
     switch (status) {
 
     case SW_FOUND:
-        p = ngx_http_silkwaram_in_tags(&conf->tags, tag, told.len);
+        p = ngx_http_silkwaram_in_tags(&conf->offered, tag, told.len);
         if (p == NULL) {
             ngx_log_error(NGX_LOG_ERR, r->connection->log, 0,
                           "sw_pick() found no tag of \"silkwaram_tags\"");
@@ -335,7 +355,7 @@ ngx_http_silkwaram_lang_variable(ngx_http_request_t *r,
 
     conf = ngx_http_get_module_loc_conf(r, ngx_http_silkwaram_module);
 
-    if (conf->tags.len == 0) {
+    if (conf->offered.len == 0) {
         v->not_found = 1;
         return NGX_OK;
     }
@@ -376,6 +396,14 @@ ngx_http_silkwaram_lang_variable(ngx_http_request_t *r,
 }
 
 
+static ngx_str_t *
+ngx_http_silkwaram_label_default(ngx_http_silkwaram_loc_conf_t *conf,
+    ngx_http_silkwaram_label_t *label)
+{
+    return (label->dflt.data != NULL) ? &label->dflt : &conf->dflt;
+}
+
+
 static int32_t
 ngx_http_silkwaram_text(ngx_http_silkwaram_loc_conf_t *conf,
     ngx_http_silkwaram_label_t *label, ngx_str_t *field, u_char *out,
@@ -383,9 +411,10 @@ ngx_http_silkwaram_text(ngx_http_silkwaram_loc_conf_t *conf,
 {
     ngx_str_t  *dflt;
 
-    dflt = (label->dflt.data != NULL) ? &label->dflt : &conf->dflt;
+    dflt = ngx_http_silkwaram_label_default(conf, label);
 
     return sw_text_text(conf->labels.data, conf->labels.len,
+                        conf->offer.data, conf->offer.len,
                         ngx_http_silkwaram_flags(conf),
                         label->id.data, label->id.len,
                         field->data, field->len, dflt->data, dflt->len, 0,
@@ -402,7 +431,7 @@ ngx_http_silkwaram_label_variable(ngx_http_request_t *r,
     u_char                          text[NGX_HTTP_SILKWARAM_TEXT_LEN];
     int32_t                         status;
     sw_told                         told;
-    ngx_str_t                       field;
+    ngx_str_t                       field, *dflt;
     ngx_http_silkwaram_loc_conf_t  *conf;
 
     conf = ngx_http_get_module_loc_conf(r, ngx_http_silkwaram_module);
@@ -416,12 +445,19 @@ ngx_http_silkwaram_label_variable(ngx_http_request_t *r,
         return NGX_ERROR;
     }
 
+    dflt = ngx_http_silkwaram_label_default(conf, label);
+
     status = ngx_http_silkwaram_text(conf, label, &field, text, sizeof(text),
                                      &told);
 
     if (status == SW_REFUSED) {
         ngx_http_silkwaram_take_as_none(r, &told);
 
+        field = ngx_http_silkwaram_any;
+        status = ngx_http_silkwaram_text(conf, label, &field, text,
+                                         sizeof(text), &told);
+
+    } else if (ngx_http_silkwaram_asks_again(conf, dflt, status)) {
         field = ngx_http_silkwaram_any;
         status = ngx_http_silkwaram_text(conf, label, &field, text,
                                          sizeof(text), &told);
@@ -573,16 +609,69 @@ ngx_http_silkwaram_create_loc_conf(ngx_conf_t *cf)
      * set by ngx_pcalloc():
      *
      *     conf->tags = { 0, NULL };
+     *     conf->offered = { 0, NULL };
      *     conf->labels = { 0, NULL };
+     *     conf->offer = { 0, NULL };
      *     conf->dflt = { 0, NULL };
      *     conf->dflt_directive = NULL;
      *     conf->checked = 0;
      */
 
     conf->lenient = NGX_CONF_UNSET;
+    conf->strict = NGX_CONF_UNSET;
     conf->widen = NGX_CONF_UNSET;
 
     return conf;
+}
+
+
+/*
+ * An empty offer is not passed on: to the library it is all languages but
+ * those of private use, and here it is all tags, which the operator lists.
+ */
+
+static ngx_int_t
+ngx_http_silkwaram_offer_tags(ngx_conf_t *cf,
+    ngx_http_silkwaram_loc_conf_t *conf)
+{
+    u_char   *end, *last, *p, *to;
+    sw_told   told;
+
+    if (conf->tags.len == 0 || conf->offer.len == 0) {
+        conf->offered = conf->tags;
+        return NGX_OK;
+    }
+
+    to = ngx_pnalloc(cf->pool, conf->tags.len);
+    if (to == NULL) {
+        return NGX_ERROR;
+    }
+
+    conf->offered.data = to;
+    last = conf->tags.data + conf->tags.len;
+
+    /* (one by one, so that they stay in their order) */
+
+    for (p = conf->tags.data; p < last; p = end) {
+        end = ngx_strlchr(p, last, '\n') + 1;
+
+        if (sw_filter(0, conf->offer.data, conf->offer.len, p, end - p,
+                      NULL, 0, &told)
+            == SW_FOUND)
+        {
+            to = ngx_cpymem(to, p, end - p);
+        }
+    }
+
+    conf->offered.len = to - conf->offered.data;
+
+    if (conf->offered.len == 0) {
+        ngx_conf_log_error(NGX_LOG_WARN, cf, 0,
+                           "\"silkwaram_offer\" \"%V\" offers none of "
+                           "\"silkwaram_tags\"", &conf->offer);
+    }
+
+    return NGX_OK;
 }
 
 
@@ -596,15 +685,17 @@ ngx_http_silkwaram_check_default(ngx_conf_t *cf,
     sw_told    told;
     ngx_str_t  empty = ngx_null_string;
 
-    if (conf->tags.len == 0 || conf->dflt.len == 0) {
+    if (conf->offered.len == 0 || conf->dflt.len == 0) {
         return;
     }
 
     if (ngx_http_silkwaram_pick(conf, &empty, tag, &told) == SW_NOTHING) {
         ngx_conf_log_error(NGX_LOG_WARN, cf, 0,
-                           "\"silkwaram_default\" \"%V\" is not among "
-                           "\"silkwaram_tags\", so it is never chosen",
-                           &conf->dflt);
+                           "\"silkwaram_default\" \"%V\" is not among %s, "
+                           "so it is never chosen", &conf->dflt,
+                           conf->offer.len != 0
+                           ? "those of \"silkwaram_tags\" that are offered"
+                           : "\"silkwaram_tags\"");
     }
 }
 
@@ -615,9 +706,10 @@ ngx_http_silkwaram_merge_loc_conf(ngx_conf_t *cf, void *parent, void *child)
     ngx_http_silkwaram_loc_conf_t *prev = parent;
     ngx_http_silkwaram_loc_conf_t *conf = child;
 
-    ngx_uint_t  inherits;
+    ngx_uint_t  inherits, inherits_offered;
 
-    inherits = conf->tags.data == NULL && conf->dflt.data == NULL;
+    inherits_offered = conf->tags.data == NULL && conf->offer.data == NULL;
+    inherits = inherits_offered && conf->dflt.data == NULL;
 
     if (conf->dflt.data == NULL) {
         conf->dflt_directive = prev->dflt_directive;
@@ -628,13 +720,28 @@ ngx_http_silkwaram_merge_loc_conf(ngx_conf_t *cf, void *parent, void *child)
 
     ngx_conf_merge_str_value(conf->tags, prev->tags, "");
     ngx_conf_merge_str_value(conf->labels, prev->labels, "");
+    ngx_conf_merge_str_value(conf->offer, prev->offer, "");
     ngx_conf_merge_str_value(conf->dflt, prev->dflt, "");
-    ngx_conf_merge_value(conf->lenient, prev->lenient, 0);
-    ngx_conf_merge_value(conf->widen, prev->widen, 0);
+    ngx_conf_merge_value(conf->lenient, prev->lenient, 1);
+    ngx_conf_merge_value(conf->strict, prev->strict, 0);
+    ngx_conf_merge_value(conf->widen, prev->widen, 1);
 
     ngx_http_silkwaram_use_default(conf);
 
-    /* once, however many locations inherit the two */
+    /* once, with its warning, however many inherit the tags and the offer */
+
+    if (inherits_offered && prev->offered.data != NULL) {
+        conf->offered = prev->offered;
+
+    } else if (ngx_http_silkwaram_offer_tags(cf, conf) != NGX_OK) {
+        return NGX_CONF_ERROR;
+    }
+
+    if (inherits_offered) {
+        prev->offered = conf->offered;
+    }
+
+    /* and so of the default */
 
     if (!inherits || !prev->checked) {
         ngx_http_silkwaram_check_default(cf, conf);
@@ -1054,6 +1161,37 @@ ngx_http_silkwaram_labels(ngx_conf_t *cf, ngx_command_t *cmd, void *conf)
 }
 
 
+/* an empty one is none, where another would be inherited */
+
+static char *
+ngx_http_silkwaram_offer(ngx_conf_t *cf, ngx_command_t *cmd, void *conf)
+{
+    ngx_http_silkwaram_loc_conf_t *slcf = conf;
+
+    sw_told     told;
+    ngx_str_t  *value;
+
+    if (slcf->offer.data != NULL) {
+        return "is duplicate";
+    }
+
+    value = cf->args->elts;
+
+    /* no tags, so that the offer alone may be refused */
+
+    if (sw_filter(0, value[1].data, value[1].len, NULL, 0, NULL, 0, &told)
+        != SW_NOTHING)
+    {
+        ngx_http_silkwaram_log_refusal(cf, cmd, &told, &value[1]);
+        return NGX_CONF_ERROR;
+    }
+
+    slcf->offer = value[1];
+
+    return NGX_CONF_OK;
+}
+
+
 static char *
 ngx_http_silkwaram_label(ngx_conf_t *cf, ngx_command_t *cmd, void *conf)
 {
@@ -1084,7 +1222,7 @@ ngx_http_silkwaram_label(ngx_conf_t *cf, ngx_command_t *cmd, void *conf)
     label->id = value[2];
 
     if (sw_text_text(ngx_http_silkwaram_empty_site.data,
-                     ngx_http_silkwaram_empty_site.len, 0,
+                     ngx_http_silkwaram_empty_site.len, NULL, 0, 0,
                      label->id.data, label->id.len, NULL, 0, NULL, 0, 0,
                      NULL, 0, &told)
         != SW_NOTHING)
@@ -1165,6 +1303,20 @@ static ngx_command_t  ngx_http_silkwaram_commands[] = {
       ngx_conf_set_flag_slot,
       NGX_HTTP_LOC_CONF_OFFSET,
       offsetof(ngx_http_silkwaram_loc_conf_t, lenient),
+      NULL },
+
+    { ngx_string("silkwaram_offer"),
+      NGX_HTTP_MAIN_CONF|NGX_HTTP_SRV_CONF|NGX_HTTP_LOC_CONF|NGX_CONF_TAKE1,
+      ngx_http_silkwaram_offer,
+      NGX_HTTP_LOC_CONF_OFFSET,
+      0,
+      NULL },
+
+    { ngx_string("silkwaram_strict"),
+      NGX_HTTP_MAIN_CONF|NGX_HTTP_SRV_CONF|NGX_HTTP_LOC_CONF|NGX_CONF_FLAG,
+      ngx_conf_set_flag_slot,
+      NGX_HTTP_LOC_CONF_OFFSET,
+      offsetof(ngx_http_silkwaram_loc_conf_t, strict),
       NULL },
 
     { ngx_string("silkwaram_widen"),

@@ -6,11 +6,18 @@ export interface LanguagesOptions {
   /** The languages that pages are in. */
   tags: readonly string[];
   /**
-   * The language for readers who get no other. It is one of the tags.
+   * The language for readers who get no other. It is one of the tags that are offered.
    *
    * @default the first of the tags
    */
   default?: string;
+  /**
+   * What readers are offered, written as an Accept-Language header: those of the tags that
+   * `req.language` may be, and the languages in which `req.label` may give a label.
+   *
+   * @default all tags, and the labels of all languages but those of private use, as `x-note`
+   */
+  offer?: string;
   /**
    * Skips malformed elements of a reader's field. Without it such a field counts as none.
    *
@@ -20,7 +27,7 @@ export interface LanguagesOptions {
   /**
    * Lets a language find its regions, as `en` finds `en-US`, among the tags and the labels.
    *
-   * @default false
+   * @default true
    */
   widen?: boolean;
   /**
@@ -48,7 +55,10 @@ export interface ResponseWithHeaders {
   setHeader(name: string, value: string): unknown;
 }
 
-/** Returns middleware of express's form. It is refused (1 to 4) where a tag is none. */
+/**
+ * Returns middleware of express's form. It is refused where a tag is none (1 to 4), and where the
+ * offer is malformed or too long (8, 9).
+ */
 export function languages(
   options: LanguagesOptions,
 ): (

@@ -1,5 +1,5 @@
 // Middleware of express's form.
-import { Site, WrittenSite, pick } from './node.mjs';
+import { Site, WrittenSite, filter, pick } from './node.mjs';
 
 // A refusal of the field: it is too long, or has a malformed element and `lenient` is false.
 const OF_FIELD = [8, 9];
@@ -32,14 +32,18 @@ function labelIn(site, id, language, options) {
   return language === null ? null : site.lookup(id, language, options);
 }
 
-// Throws where the arguments cannot serve any reader.
-function check(site, offered, options, strict) {
+// Throws if the arguments cannot serve any reader.
+function check(site, tags, strict) {
   const isSite = site instanceof Site || site instanceof WrittenSite;
   if (!isSite) throw new TypeError('site must be a Site or a WrittenSite');
   if (typeof strict !== 'boolean') throw new TypeError('strict must be a boolean');
-  if (!Array.isArray(offered)) throw new TypeError('tags must be an array of strings');
-  if (offered.includes('@none')) throw new RangeError('@none is no language that a page can be in');
-  if (pick(undefined, offered, options) === null) throw new RangeError('default must be one of tags');
+  if (!Array.isArray(tags)) throw new TypeError('tags must be an array of strings');
+  if (tags.includes('@none')) throw new RangeError('@none is no language that a page can be in');
+}
+
+// The tags that readers are offered. Without an offer they are all: the publisher lists them.
+function offeredOf(tags, offer) {
+  return offer ? filter(offer, tags).map(({ tag }) => tag) : [...tags];
 }
 
 /** Returns the middleware (express.d.ts). */
@@ -47,20 +51,22 @@ export function languages({
   site,
   tags,
   default: fallback = tags?.[0],
+  offer,
   lenient = true,
-  widen = false,
+  widen = true,
   strict = false,
 }) {
   const options = { default: fallback, lenient, widen };
-  check(site, tags, options, strict);
-  const offered = [...tags];
+  check(site, tags, strict);
+  const offered = offeredOf(tags, offer);
   const first = pick(undefined, offered, options);
+  if (first === null) throw new RangeError('default must be one of the tags that are offered');
   return function readerLanguage(req, res, next) {
     const found = pickFor(req.headers['accept-language'], offered, options);
     // (a reader who refuses the default too may get it nevertheless: RFC 9110 section 12.5.4)
     const language = found ?? (strict ? null : first);
     req.language = language;
-    req.label = (id) => labelIn(site, id, language, { default: fallback, widen });
+    req.label = (id) => labelIn(site, id, language, { default: fallback, widen, offer });
     if (language !== null) res.setHeader('Content-Language', language);
     vary(res);
     next();

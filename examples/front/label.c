@@ -5,6 +5,9 @@
  *     cc label.c -o label $(pkg-config --cflags --libs silkwaram)
  *     ./label site.json greeting 'fr-CA, en;q=0.5' en
  *
+ * FIELD is what the reader's Accept-Language header holds, or * if there is none. A reader who excludes the default too
+ * (*;q=0) gets it nevertheless.
+ *
  * Ends with 0 if a text was printed, 1 if there is none for this reader, 2 for wrong usage, 3 if something is refused,
  * 4 if the file cannot be read or the text cannot be written, 5 if memory runs out. */
 #include <silkwaram.h>
@@ -40,17 +43,22 @@ static void print_refusal(const sw_told *refused) {
   fprintf(stderr, ": %.*s\n", (int)told.len, (const char *)wanted);
 }
 
-/* Prints the first text of the label, in a block of memory of just its size where the buffer has no room. */
+/* Asks for the first text of the label: without what is malformed of the field, and a language finds its regions. */
+static int32_t ask(sw_site *site, const char *id, const char *field, const char *dflt, uint8_t *out, size_t room,
+                   sw_told *told) {
+  return sw_site_text(site, NULL, 0, SW_LENIENT | SW_WIDEN, bytes(id), strlen(id), bytes(field), strlen(field),
+                      bytes(dflt), strlen(dflt), 0, out, room, told);
+}
+
+/* Prints the text, by a block of memory of just its size if the buffer has no room. */
 static int32_t print_text(sw_site *site, const char *id, const char *field, const char *dflt, sw_told *told) {
   uint8_t buffer[80], *out = buffer;
-  int32_t status = sw_site_text(site, 0, bytes(id), strlen(id), bytes(field), strlen(field), bytes(dflt), strlen(dflt),
-                                0, buffer, sizeof buffer, told);
+  int32_t status = ask(site, id, field, dflt, out, sizeof buffer, told);
   if (status == SW_FOUND && told->len > sizeof buffer) {
     size_t room = told->len;
     out = malloc(room);
     if (!out) return SW_NO_MEMORY;
-    status = sw_site_text(site, 0, bytes(id), strlen(id), bytes(field), strlen(field), bytes(dflt), strlen(dflt), 0,
-                          out, room, told);
+    status = ask(site, id, field, dflt, out, room, told);
   }
   if (status == SW_FOUND && (printf("%.*s\n", (int)told->len, (const char *)out) < 0 || fflush(stdout))) status = 4;
   if (out != buffer) free(out);
@@ -72,7 +80,9 @@ int main(int count, char **words) {
   sw_told told = {0};
   int32_t status = sw_site_open(document, len, &site, &told);
   free(document);
-  if (status == SW_FOUND) status = print_text(&site, words[2], words[3], count == 5 ? words[4] : "", &told);
+  const char *dflt = count == 5 ? words[4] : "";
+  if (status == SW_FOUND) status = print_text(&site, words[2], words[3], dflt, &told);
+  if (status == SW_NOTHING) status = print_text(&site, words[2], "*", dflt, &told);
   if (told.number) print_refusal(&told);
   sw_site_free(&site);
   return status;

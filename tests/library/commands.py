@@ -109,12 +109,14 @@ def bytes_of(key):
 
 
 def options(rng, names):
-    """Some of the options that have no value, and those of a scheme and a default."""
+    """Some of the options that have no value, and those of a scheme, a default and an offer."""
     words = [f"--{it}" for it in names if it in ("lenient", "widen", "all") and rng.random() < 0.25]
     if "scheme" in names and rng.random() < 0.3:
         words.append(f"--scheme={of_library.one_of(rng, ['basic', 'extended'], ['other', ''])}")
     if "default" in names and rng.random() < 0.4:
         words.append(f"--default={of_library.one_of(rng, TAGS, of_library.BAD_TAGS)}")
+    if "offer" in names and rng.random() < 0.3:
+        words.append(f"--offer={of_library.one_of(rng, of_library.OFFERS[2:], ['e n', 'fr, de;q=2'])}")
     return words
 
 
@@ -141,11 +143,11 @@ def arguments(rng, command):
     if command == "outdated":
         return [lang, f"--source={one_of(rng, TAGS, of_library.BAD_TAGS)}"]
     if command == "filter":
-        return [*key, *options(rng, ["scheme", "lenient"]), "--", field]
+        return [*key, *options(rng, ["offer", "scheme", "lenient"]), "--", field]
     if command == "lookup":
-        return [*key, *options(rng, ["scheme", "lenient", "widen", "default"]), "--", field]
+        return [*key, *options(rng, ["scheme", "lenient", "widen", "default", "offer"]), "--", field]
     if command == "bundle":
-        return [*options(rng, ["scheme", "lenient", "widen", "default"]), "--", field]
+        return [*options(rng, ["scheme", "lenient", "widen", "default", "offer"]), "--", field]
     if command in ("take", "sync", "merge"):
         return [f"--not-after={one_of(rng, MOMENTS, BAD_MOMENTS)}"] if rng.random() < 0.4 else []
     if command == "explain":

@@ -22,12 +22,11 @@ ends_with() { # status, what is printed on standard error, then the words of the
         printf '%s' "$line" | diff - "$room/refusal"
 }
 
-of_element='a range, with or without a weight (RFC 9110 sections 12.4.2 and 12.5.4)'
+of_subtag='each subtag is 1 to 8 letters or digits, with a hyphen between two'
 of_json='one JSON text (RFC 8259) of at most 127 levels, without a number too large for a float'
 refuses_in_words() {
     ends_with 1 '' "$room/site.json" greeting xx &&
-        ends_with 3 "refused 9 at byte 4: each element of a field is $of_element"$'\n' \
-            "$room/site.json" greeting 'fr, en_US' &&
+        ends_with 3 "refused 3 at byte 0: $of_subtag"$'\n' "$room/site.json" greeting fr en_US &&
         ends_with 3 "refused 19: a document is $of_json"$'\n' examples/front/label.c greeting fr &&
         ends_with 4 "$room/nowhere: No such file or directory"$'\n' "$room/nowhere" greeting fr
 }

@@ -27,6 +27,9 @@ BASIC_RANGES = TAGS[:-1] + ["*", "zh-Hant-CN-x-private1-private2", "en-GB-oed"]
 RANGES = BASIC_RANGES + ["de-*", "*-CH", "de-*-DE", "*-*", "en-*"]
 WEIGHTS = ["", "", ";q=0.5", ";q=0.8", "; Q=0.123", ";q=0", ";q=1.000", ";q=1."]
 BAD_ELEMENTS = ["en_US", "de;q=.8", "en;q=1.5", "fr;q=0.1234", "a b", "*-", "de;level=1", "é", "-"]
+# What a reader is offered: None stands for what the command calls PUBLIC.
+PUBLIC = "*, x;q=0"
+OFFERS = [None, None, "*", PUBLIC, "en, fr", "*, de;q=0", "x, de;q=0.001, en;q=0", ","]
 IDS = ["greeting", "news.title", "a", "größe", "-x", "x" * 128, "m 1"]
 BAD_IDS = ["", "@context", "x" * 129, "a\tb"]
 TEXTS = [
@@ -42,7 +45,7 @@ TEXTS = [
     "x" * 300,
 ]
 
-Question = collections.namedtuple("Question", "call flags texts place site")
+Question = collections.namedtuple("Question", "call flags texts place site offer")
 Answer = collections.namedtuple("Answer", "status number given offset row count answer")
 # What the command's line of a refusal may have, in the order of an Answer, with its bit of `given`.
 HAS_OFFSET, HAS_ROW, HAS_COUNT = 1, 2, 4
@@ -128,7 +131,7 @@ def default(rng):
     return "" if rng.random() < 0.5 else one_of(rng, TAGS, BAD_TAGS[1:])
 
 
-def question(rng, call, site):
+def question(rng, call, site, offers=(None,)):
     flags = rng.choice([0, 0, EXTENDED, LENIENT, EXTENDED | LENIENT])
     read = field(rng, flags & EXTENDED)
     name, place = one_of(rng, IDS, BAD_IDS), 0
@@ -144,22 +147,23 @@ def question(rng, call, site):
     else:
         texts = [name, read] + ([] if call == "filter" else [default(rng)])
         place = rng.choice([0, 0, 0, 1, 2, 63, 64, 2**64 - 1]) if call == "text" else 0
-    return Question(call, flags, tuple(it.encode() for it in texts), place, site)
+    offer = None if call == "pick" else rng.choice(offers)
+    return Question(call, flags, tuple(it.encode() for it in texts), place, site, offer)
 
 
-def questions(count):
+def questions(count, offers=(None,)):
     rng = random.Random(f"{SEED} questions")
     sites = [site_document(rng) for _ in range(5)]
     asked = []
     for at, site in enumerate(sites):
-        asked.append(Question("open", 0, (site,), 0, site))
+        asked.append(Question("open", 0, (site,), 0, site, None))
         share = count // len(sites) + (at < count % len(sites))
         for call in ("pick", "lookup", "text", "filter", "bundle"):
-            asked += [question(rng, call, site) for _ in range(share)]
+            asked += [question(rng, call, site, offers) for _ in range(share)]
     held = sites[-1]
     for _ in range(count):
         document = spoiled(rng, held)
-        asked.append(Question("open", 0, (document,), 0, document))
+        asked.append(Question("open", 0, (document,), 0, document, None))
         # (a site that is refused leaves the old one, and one that is not takes its place)
         asked.append(question(rng, "lookup", None))
     return asked
@@ -167,7 +171,8 @@ def questions(count):
 
 def line_of(asked):
     texts = [it.hex() or "-" for it in asked.texts] + ["-"] * (3 - len(asked.texts))
-    return " ".join([asked.call, str(asked.flags), *texts, str(asked.place)])
+    offer = (asked.offer or "").encode().hex() or "-"
+    return " ".join([asked.call, str(asked.flags), *texts, str(asked.place), offer])
 
 
 def run(lexicat, words, document=b""):
@@ -188,6 +193,7 @@ def options(asked, read, dflt):
     words = ["--scheme=extended"] if asked.flags & EXTENDED else []
     words += ["--lenient"] if asked.flags & LENIENT else []
     words += [b"--default=" + dflt] if dflt else []
+    words += [] if asked.call == "pick" else ["--offer=" + (PUBLIC if asked.offer is None else asked.offer)]
     return [*words, "--", read]
 
 
@@ -233,7 +239,7 @@ def with_sites(asked, all_wanted):
 
 
 def compare(lexicat, answers, count):
-    asked = questions(count)
+    asked = questions(count, OFFERS)
     with concurrent.futures.ThreadPoolExecutor(os.cpu_count()) as pool:
         opens = [it for it in asked if it.call == "open"]
         opened = dict(zip(opens, pool.map(lambda it: wanted(lexicat, it), opens)))
@@ -263,7 +269,7 @@ def compare(lexicat, answers, count):
 
 def main(words):
     if words[0] == "--print":
-        print("\n".join(map(line_of, questions(int(words[1])))))
+        print("\n".join(map(line_of, questions(int(words[1]), OFFERS))))
         return 0
     lexicat, answers, count = words
     return 1 if compare(lexicat, answers, int(count)) else 0

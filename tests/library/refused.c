@@ -81,13 +81,13 @@ static void shares(trial *it) {
 }
 
 /* Questions about the message `m`, to the site and to a document where it lies. */
-#define LOOKED_UP 0, BYTES(T("m")), BYTES(T("da, " LONG_TAG)), BYTES(T(LONG_TAG "-more"))
-#define TEXT_OF SW_EXTENDED, BYTES(T("m")), BYTES(T("*-de, zh-*-CN-x-private1-private2, en")), BYTES(T("en")), 0
-#define FILTERED 0, BYTES(T("m")), BYTES(T("en;q=0.5, zh-hant-cn-x-private1"))
+#define LOOKED_UP BYTES(T("*;q=0.5, " LONG_TAG)), 0, BYTES(T("m")), BYTES(T("da, " LONG_TAG)), BYTES(T(LONG_TAG "-more"))
+#define TEXT_OF NULL, 0, SW_EXTENDED, BYTES(T("m")), BYTES(T("*-de, zh-*-CN-x-private1-private2, en")), BYTES(T("en")), 0
+#define FILTERED NULL, 0, 0, BYTES(T("m")), BYTES(T("en;q=0.5, zh-hant-cn-x-private1"))
 ACT(looks_up, sw_site_lookup(&it->site, LOOKED_UP, ANSWER))
 ACT(finds_text, sw_site_text(&it->site, TEXT_OF, ANSWER))
 ACT(filters_labels, sw_site_filter(&it->site, FILTERED, ANSWER))
-ACT(bundles, sw_site_bundle(&it->site, SW_LENIENT, BYTES(T("en_US, " LONG_TAG)), BYTES(T("de")), ANSWER))
+ACT(bundles, sw_site_bundle(&it->site, NULL, 0, SW_LENIENT, BYTES(T("en_US, " LONG_TAG)), BYTES(T("de")), ANSWER))
 ACT(looks_up_in_text, sw_text_lookup(BYTES(T(PARIS)), LOOKED_UP, ANSWER))
 ACT(finds_text_in_text, sw_text_text(BYTES(T(PARIS)), TEXT_OF, ANSWER))
 ACT(filters_text, sw_text_filter(BYTES(T(PARIS)), FILTERED, ANSWER))

@@ -63,9 +63,9 @@ static void wrong(const char *what, const answer *it) {
           it->status, it->told.number, it->told.len);
 }
 
-#define SITE_OR_TEXT(name, ...)                                        \
-  (of->site ? sw_site_##name(of->site, asked.flags, __VA_ARGS__, told) \
-            : sw_text_##name(BYTES(of->document), asked.flags, __VA_ARGS__, told))
+#define SITE_OR_TEXT(name, ...)                                                 \
+  (of->site ? sw_site_##name(of->site, NULL, 0, asked.flags, __VA_ARGS__, told) \
+            : sw_text_##name(BYTES(of->document), NULL, 0, asked.flags, __VA_ARGS__, told))
 
 static int32_t ask_once(const source *of, uint8_t *out, size_t room, sw_told *told) {
   memset(told, UNTOUCHED, sizeof *told);

@@ -2,8 +2,8 @@
 """Compares the labels that nginx answers, byte for byte, with what `lexicat lookup` answers.
 
 usage: beside_lookup.py LEXICAT HOST:PORT SITE FIELDS
-           asks /hostile/strict, /hostile/lenient, /hostile/wide and /hostile/plain (labels.conf)
-           by so many fields, some of them of any bytes, on one header line or several
+           asks the locations of beside_pick.py below /hostile, and /hostile/plain (labels.conf), by
+           so many fields, some of them of any bytes, on one header line or several
        beside_lookup.py --maps
            prints the language maps of the site
 
@@ -15,7 +15,7 @@ import random
 import sys
 
 sys.dont_write_bytecode = True
-from beside_pick import LOCATIONS, RANGES, SEED, fields, said  # noqa: E402
+from beside_pick import LOCATIONS, RANGES, SEED, fields, found  # noqa: E402
 
 TEXTS = {
     "en": '"quoted", \\ $title ${title} %41 <b>',
@@ -31,9 +31,9 @@ MAPS = {
     "hostile": {**TEXTS, "i-klingon": ["first", "second"]},
     "plain": {"en": '"],["', "fr": '"],["plain","fr",'},
 }
-# Where each is asked: the message, and the options by which the command answers the same.
-ASKED = {f"hostile/{name}": ("hostile", options) for name, options in LOCATIONS.items()}
-ASKED["hostile/plain"] = ("plain", [])
+# Where each is asked: the message, and the location of beside_pick.py by whose rules.
+ASKED = {f"hostile/{name}": ("hostile", name) for name in LOCATIONS}
+ASKED["hostile/plain"] = ("plain", "strict")
 
 
 def hostile_field(rng):
@@ -61,10 +61,10 @@ def as_argument(field):
     return field if field.isascii() else bytes(it if it < 128 else ord("_") for it in field)
 
 
-def looked_up(lexicat, document, name, options, field):
+def looked_up(lexicat, document, name, path, field):
     """The first text of the label that the command finds, or nothing."""
-    words = [lexicat, "lookup", "--id", name, "--default", "en", *options]
-    line = said(words, as_argument(field), document=document)
+    words = [lexicat, "lookup", "--id", name, "--default", "en"]
+    line = found(path, words, as_argument(field), (), document)
     return b"" if line == b"nothing\n" else json.loads(line.split(b" ", 2)[2])[0].encode()
 
 
@@ -87,19 +87,19 @@ def main(lexicat, server, site, count):
         document = file.read()
     rng = random.Random(f"{SEED} lines")
     connection = http.client.HTTPConnection(server, timeout=300)
-    wrong, found = [], set()
+    wrong, texts = [], set()
     asked = [(path, field) for field in asked_fields(int(count)) for path in ASKED]
     for path, field in asked:
         lines = in_lines(rng, field)
         wanted = looked_up(lexicat, document, *ASKED[path], b",".join(lines))
-        found.add(wanted)
+        texts.add(wanted)
         got = answered(connection, path, lines)
         if got != (200, wanted):
             status, text = got
             wrong.append(f"wanted {wanted[:80]!r}, not {status} {text[:80]!r}, of {field[:80]!r}")
     print("\n".join(wrong[:20]))
-    print(f"{len(asked)} questions, {len(found)} texts, {len(wrong)} wrong")
-    if wrong or len(found) < len(TEXTS):
+    print(f"{len(asked)} questions, {len(texts)} texts, {len(wrong)} wrong")
+    if wrong or len(texts) < len(TEXTS):
         sys.exit("wrong, or too few")
 
 

@@ -2,9 +2,9 @@
 """Compares what nginx answers with what `lexicat pick` answers for the same fields.
 
 usage: beside_pick.py LEXICAT SERVER REQUESTS FOLDER
-           asks SERVER/strict, SERVER/lenient and SERVER/wide, by curl, with files in FOLDER
+           asks SERVER/strict, /lenient, /wide, /always and /usual, by curl, with files in FOLDER
        beside_pick.py --print COUNT SERVER
-           prints COUNT requests to each of the three, as a configuration for curl
+           prints COUNT requests to each of them, as a configuration for curl
 
 The fields are made of SEED; some of each answer are always among them.
 """
@@ -16,7 +16,15 @@ import sys
 TAGS = ["en", "fr", "de-CH", "zh-Hant"]
 DEFAULT = "en"
 # The locations, with the options by which the command answers the same.
-LOCATIONS = {"strict": [], "lenient": ["--lenient"], "wide": ["--widen"]}
+LOCATIONS = {
+    "strict": [],
+    "lenient": ["--lenient"],
+    "wide": ["--widen"],
+    "always": [],
+    "usual": ["--lenient", "--widen"],
+}
+# Those that ask again without the field where nothing is found.
+NOT_STRICT = ["always", "usual"]
 FIELDS = 200
 SEED = os.environ["SEED"]
 # Fields that each of the answers is found by.
@@ -63,9 +71,17 @@ def said(words, field, tags=(), document=b""):
     return run.stdout
 
 
-def picked(lexicat, asked, *flags):
+def found(path, words, field, *more):
+    """What the command prints of a field by the rules of a location."""
+    answer = said([*words, *LOCATIONS[path]], field, *more)
+    if answer == b"nothing\n" and path in NOT_STRICT:
+        return said([*words, *LOCATIONS[path]], "*", *more)
+    return answer
+
+
+def picked(lexicat, path, asked):
     """The tag that the command picks, as TAGS has it, or nothing."""
-    answer = said([lexicat, "pick", *flags, "--default", DEFAULT], asked, TAGS).decode().split()
+    answer = found(path, [lexicat, "pick", "--default", DEFAULT], asked, TAGS).decode().split()
     return "" if answer == ["nothing"] else {tag.lower(): tag for tag in TAGS}[answer[1]]
 
 
@@ -89,9 +105,7 @@ def main():
         return
     lexicat, server, requests, folder = sys.argv[1:]
     questions = questions_of(FIELDS)
-    wanted = {
-        (path, asked): picked(lexicat, asked, *LOCATIONS[path]) for path, asked in questions
-    }
+    wanted = {(path, asked): picked(lexicat, path, asked) for path, asked in questions}
     rng = random.Random(f"{SEED} requests")
     asked = [rng.choice(questions) for _ in range(int(requests) - len(questions))] + questions
     config = os.path.join(folder, "curl.conf")

@@ -47,6 +47,10 @@ bad_configurations() {
     refuses '"silkwaram_tags" directive is duplicate in' 'silkwaram_tags en;' 'silkwaram_tags fr;'
     refuses 'invalid number of arguments in "silkwaram_tags" directive' 'silkwaram_tags;'
     refuses '"silkwaram_default": refused 3: subtag at 0: "en_US" in' 'silkwaram_default en_US;'
+    refuses '"silkwaram_offer": refused 9: field element at 4: "en, e n" in' \
+        'silkwaram_offer "en, e n";'
+    refuses '"silkwaram_offer" directive is duplicate in' 'silkwaram_offer en;' \
+        'silkwaram_offer fr;'
     refuses '"silkwaram_default" directive is duplicate in' 'silkwaram_default en;' \
         'silkwaram_default fr;'
     refuses 'invalid number of arguments in "silkwaram_default" directive' \
@@ -54,6 +58,9 @@ bad_configurations() {
     refuses '"silkwaram_lenient" directive is duplicate' 'silkwaram_lenient on;' \
         'silkwaram_lenient on;'
     refuses 'invalid value "yes" in "silkwaram_lenient" directive' 'silkwaram_lenient yes;'
+    refuses '"silkwaram_strict" directive is duplicate' 'silkwaram_strict on;' \
+        'silkwaram_strict off;'
+    refuses 'invalid value "" in "silkwaram_strict" directive' 'silkwaram_strict "";'
     refuses '"silkwaram_tags": refused 3' 'server { location / { silkwaram_tags e-; } }'
     refuses '"silkwaram_default" has no "silkwaram_tags" and no "silkwaram_labels" in' \
         'silkwaram_default en;' 'server { location / { } }'
@@ -71,6 +78,32 @@ bad_configurations() {
         'silkwaram_tags en fr; silkwaram_default en;' \
         'server { location / { silkwaram_tags fr; } }'
     warns 0 'silkwaram' 'silkwaram_tags en fr; silkwaram_default EN;' 'server { location / { } }'
+    bad_offers
+}
+
+# A default that is not offered is warned of once, and so are tags of which none is.
+bad_offers() {
+    local none='"silkwaram_offer" "de" offers none of "silkwaram_tags"'
+    local not='is not among those of "silkwaram_tags" that are offered, so it is never chosen'
+    warns 0 'silkwaram' 'silkwaram_tags en fr-CA; silkwaram_default fr-CA;' \
+        'silkwaram_offer "fr, en;q=0.5";' 'server { location / { silkwaram_offer ""; } }'
+    warns 1 "\"silkwaram_default\" \"en\" $not" \
+        'silkwaram_tags en fr; silkwaram_default en; silkwaram_offer fr;' \
+        'server { location / { } location /a { } }' 'server { }'
+    warns 1 "\"silkwaram_default\" \"en\" $not" \
+        'silkwaram_tags en fr; silkwaram_default en;' 'server { }' \
+        'server { silkwaram_offer "*, en;q=0"; location / { } }'
+    warns 0 'silkwaram' 'silkwaram_tags en fr; silkwaram_offer fr;' \
+        'server { silkwaram_default fr; location / { } }'
+    warns 0 'silkwaram' 'silkwaram_offer "fr, da"; silkwaram_default fr;' \
+        'server { silkwaram_tags en fr; location / { silkwaram_tags fr da; } }'
+    warns 1 'silkwaram' 'silkwaram_tags en fr; silkwaram_default en; silkwaram_offer de;' \
+        'server { location / { } location /a { silkwaram_default fr; } }' 'server { }'
+    warns 1 "$none" 'silkwaram_tags en fr; silkwaram_default en; silkwaram_offer de;' \
+        'server { location / { } location /a { silkwaram_default fr; } }' 'server { }'
+    warns 1 "$none" 'silkwaram_offer de;' \
+        'server { silkwaram_tags de-CH; location / { silkwaram_tags x-de; } }'
+    warns 0 'silkwaram' 'silkwaram_offer de;' 'server { location / { } }'
 }
 
 refuses_file() { # what nginx says before the name of a file, and the file

@@ -17,31 +17,56 @@ label_rows() {
     # (where nothing else is found, the default of the variable, or that of the level)
     gets Catalogue /strict 'ja'
     gets Catalogue /strict
-    gets Verzeichnis /strict-de 'ja'
-    gets Verzeichnis /strict-de
-    gets '' /strict-none 'ja'
-    gets '' /strict-none
-    gets Catalogue /strict-none 'fr'
+    gets Verzeichnis /strict/de 'ja'
+    gets Verzeichnis /strict/de
+    gets '' /strict/none 'ja'
+    gets '' /strict/none
+    gets Catalogue /strict/none 'fr'
     gets Verzeichnis /level-de 'ja'
     gets Verzeichnis /level-de
     gets Catalogue /level-de 'fr'
+    # (strictly no reader gets a default that it excludes)
     gets '' /strict 'ja, *;q=0'
+    gets '' /strict/de 'de;q=0'
+    gets '' /lenient '*;q=0, en_US'
+    gets '' /wide 'en;q=0, ja'
+    gets Catalogue /usual 'ja, *;q=0'
+    gets Verzeichnis /usual-de 'de;q=0'
+    gets Verzeichnis /level-de '*;q=0, en_US'
+    gets '' /usual-none '*;q=0'
+    gets '' /usual-none
     # (several lines are one field)
     gets Verzeichnis /strict 'ja' 'de-CH'
     gets Verzeichnis /strict 'fr;q=0.5' 'ja' 'de-CH;q=0.7'
     # (malformed: strictly as without the header, leniently what is left of it)
     gets Catalogue /strict 'de-CH, en_US'
-    gets Verzeichnis /strict-de 'fr, en_US'
+    gets Verzeichnis /strict/de 'fr, en_US'
     gets Verzeichnis /lenient 'de-CH, en_US'
-    # (a language finds its regions where that is asked for)
+    gets Verzeichnis /usual 'de-CH, en_US'
+    # (a language finds its regions, unless that is switched off)
     gets Catalogue /strict 'de'
+    gets Catalogue /lenient 'de'
     gets Verzeichnis /wide 'de'
+    gets Verzeichnis /usual 'de'
+    gets Verzeichnis /usual-none 'de, en_US'
+    # (notes of translators are shown where they are offered; no default that is not)
+    gets Catalogue /noted 'x-note, en;q=0.5'
+    gets Catalogue /noted 'x-note'
+    gets 'ask Anna' /noted/all 'x-note, en;q=0.5'
+    gets 'ask Anna' /noted/all/inner 'x-note, en;q=0.5'
+    gets Catalogue /noted/all/but 'x-note, en;q=0.5'
+    gets '' /noted/french 'en'
+    # (one offer for languages and labels)
+    gets 'x-note ask Anna' /noted/tags 'en'
+    gets 'fr ask Anna' /noted/tags 'fr, x-note;q=0.5'
     # (each level by its own site, and a message that a site lacks is empty)
     gets Titre /other 'fr'
     gets '' /other 'ja'
     gets '' /lacking 'en'
     gets '[Titre]' /moved 'fr'
     answers '[]' / -H 'Host: none' -H 'Accept-Language: ja'
+    answers '[Verzeichnis]' /de -H 'Host: none' -H 'Accept-Language: ja'
+    answers '[Verzeichnis]' /de -H 'Host: none' -H 'Accept-Language: *;q=0'
 }
 
 beside_lookup() {

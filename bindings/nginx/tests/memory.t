@@ -34,13 +34,20 @@ server {
     listen 127.0.0.1:PORT;
     silkwaram_default en;
     silkwaram_tags en fr de-CH zh-Hant;
-    location /strict { return 200 "\$silkwaram_lang \$silkwaram_lang\\n"; }
+    location /strict {
+        silkwaram_lenient off;
+        silkwaram_widen off;
+        silkwaram_strict on;
+        return 200 "\$silkwaram_lang \$silkwaram_lang\\n";
+    }
     location /lenient {
-        silkwaram_lenient on;
         silkwaram_tags $tags en fr;
+        silkwaram_offer "fr, en-x-a000699, en;q=0.5";
         return 200 "\$silkwaram_lang\\n";
     }
-    location /wide { silkwaram_widen on; return 200 "\$silkwaram_lang\\n"; }
+    location /wide { silkwaram_lenient off; return 200 "\$silkwaram_lang\\n"; }
+    location /always { silkwaram_widen off; return 200 "\$silkwaram_lang\\n"; }
+    location /usual { silkwaram_offer fr; return 200 "\$silkwaram_lang\\n"; }
     location /labels/ { silkwaram_labels hostile.json; return 200 "\$hostile\$hostile\\n"; }
 }
 END
@@ -54,7 +61,7 @@ END
     field_file 'ja' 5000 '' one
     field_file '' 6000 'fr' two
     field_file 'it' 5000 '' three
-    python3 "$own/beside_pick.py" --print 170 "http://127.0.0.1:$port" > "$room/questions"
+    python3 "$own/beside_pick.py" --print 102 "http://127.0.0.1:$port" > "$room/questions"
     for n in 1 2; do curl -sS -K "$room/questions" > "$room/body" || return 1; done
     [ "$(wc -l < "$room/body")" -eq 510 ] || return 1
     asked=0

@@ -141,5 +141,6 @@ has_sites() {
     local texts='"en":"Catalogue","fr":["Catalogue","Liste"],"de-ch":"Verzeichnis"'
     python3 "$own/beside_lookup.py" --maps | site > "$room/hostile.json" &&
         echo "{\"title\":{$texts},\"x\":{\"en\":\"x\"}}" | site > "$room/site.json" &&
+        echo '{"title":{"en":"Catalogue","x-note":"ask Anna"}}' | site > "$room/noted.json" &&
         printf %s "$(echo '{"title":{"fr":"Titre"}}' | site)" > "$room/other.json"
 }

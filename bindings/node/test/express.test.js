@@ -98,23 +98,23 @@ test('a reader who refuses the default too gets null where that is asked for', a
   assert.deepEqual(await get(port), answer('en Hello', 'en'));
 });
 
-test('a language finds its regions where that is asked for', async (t) => {
+test('a language finds its regions, unless widen is false', async (t) => {
   const site = Site.open(GREETINGS);
-  const port = await serve(t, respond(languages({ site, tags: TAGS, widen: true })));
+  const port = await serve(t, respond(languages({ site, tags: TAGS })));
   assert.deepEqual(await get(port, 'de, fr;q=0.5'), answer('de-ch Grüezi', 'de-CH'));
-  const narrow = await serve(t, respond(languages({ site, tags: TAGS })));
+  const narrow = await serve(t, respond(languages({ site, tags: TAGS, widen: false })));
   assert.deepEqual(await get(narrow, 'de, fr;q=0.5'), answer('fr Bonjour', 'fr'));
 });
 
-test('a label of a region is found for its language where that is asked for', () => {
+test('a label of a region is found for its language, unless widen is false', () => {
   const site = Site.open(siteDocument({ greeting: { 'de-ch': ['Grüezi'] } }));
   const label = (options) => {
     const req = { headers: { 'accept-language': 'de' } };
     languages({ site, tags: ['de'], ...options })(req, new http.ServerResponse(req), () => {});
     return req.label('greeting');
   };
-  assert.equal(label({ widen: true }).language, 'de-ch');
-  assert.equal(label({}), null);
+  assert.equal(label({}).language, 'de-ch');
+  assert.equal(label({ widen: false }), null);
 });
 
 test('Vary keeps what it has', async (t) => {
@@ -135,10 +135,26 @@ test('a label that a language lacks is that of the default', () => {
   assert.throws(() => req.label('@'), { number: 10 });
 });
 
+test('a tag that is not offered is given to no reader', async (t) => {
+  const site = Site.open(GREETINGS);
+  const port = async (offer, tags = TAGS) =>
+    serve(t, respond(languages({ site, tags, default: 'en', offer })));
+  const few = await port('en, de');
+  assert.deepEqual(await get(few, 'fr, de;q=0.5'), answer('de-ch Grüezi', 'de-CH'));
+  assert.deepEqual(await get(few, 'fr'), answer('en Hello', 'en'));
+  // (without an offer the tags are all offered, also one of private use, but no label of one)
+  const noted = [...TAGS, 'x-note'];
+  assert.deepEqual(await get(await port(undefined, noted), 'x-note'), answer('en Hello', 'x-note'));
+  assert.deepEqual(await get(await port('', noted), 'x-note'), answer('en Hello', 'x-note'));
+  assert.deepEqual(await get(await port('*, x;q=0', noted), 'x-note'), answer('en Hello', 'en'));
+});
+
 test('arguments that can serve no reader are refused at once', () => {
   const site = Site.open(GREETINGS);
   assert.throws(() => languages({ site, tags: ['en_US'] }), { number: 3 });
   assert.throws(() => languages({ site, tags: ['en'], default: 'fr' }), RangeError);
+  assert.throws(() => languages({ site, tags: TAGS, default: 'en', offer: 'fr' }), RangeError);
+  assert.throws(() => languages({ site, tags: TAGS, offer: 'en_US' }), { number: 9 });
   assert.throws(() => languages({ site, tags: [] }), RangeError);
   assert.throws(() => languages({ site, tags: ['en', '@none'] }), RangeError);
   assert.throws(() => languages({ site, tags: 'en' }), TypeError);

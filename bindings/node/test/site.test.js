@@ -49,13 +49,13 @@ test('a refusal says what is wanted, and of which document', () => {
   const other = Site.new('oslo');
   assert.throws(() => other.take(site.deltaFor(site.summary())), {
     number: 15,
-    message: 'refused 15: delta is for another site (a delta is taken by the site that it was made for)',
+    message: 'refused 15: delta is for another site (a delta is applied to the site that it was made for)',
   });
   assert.throws(() => opened({ m: { en: ['x'] } }).merge(opened({ m: { en: ['y'] } })), {
     number: 13,
     message:
       'refused 13: one stamp is used for two different edits, cell 0' +
-      ' (two different edits of a message in a language have two stamps)',
+      ' (two different edits of a message in a language have two timestamps)',
   });
   assert.throws(() => site.take(GREETINGS), {
     number: 20,

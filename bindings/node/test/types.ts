@@ -20,8 +20,12 @@ const site: Site = Site.open(new Uint8Array(2));
 const label: Label | null = site.lookup('greeting', null);
 const text: string | null = site.text('greeting', 'fr', { place: 1n });
 const texts: string[] | null = site.texts('greeting', 'fr');
-const choices: Choice[] = site.filter('greeting', 'fr');
-const bundle: LanguageMaps = site.bundle('fr', { default: 'en' });
+const choices: Choice[] = site.filter('greeting', 'fr', { offer: null });
+const bundle: LanguageMaps = site.bundle('fr', { default: 'en', offer: 'en, fr' });
+// @ts-expect-error
+site.text('greeting', 'fr', { offer: ['fr'] });
+// @ts-expect-error
+pick('fr', ['en'], { offer: 'fr' });
 // @ts-expect-error
 site.filter('greeting', 'fr', { default: 'en' });
 // @ts-expect-error

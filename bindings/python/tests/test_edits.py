@@ -326,7 +326,7 @@ class Files(FileCase):
         os.mkdir(self.path + ".changes")
         with self.assertLogs("silkwaram", "WARNING") as logged, edit(self.path, log="me") as site:
             site.put("m", "fr", "Bonjour")
-        self.assertIn("its edit is made, and its log lacks it", logged.output[0])
+        self.assertIn("the edit was made, but is not in the log", logged.output[0])
         self.assertEqual(self.labels()["m"]["fr"], "Bonjour")
 
     def test_a_site_that_stays_the_same_is_not_written(self):

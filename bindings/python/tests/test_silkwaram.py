@@ -158,6 +158,42 @@ class Questions(Case):
             self.assertEqual(site.filter("greeting", "ja"), [])
             self.assertEqual(site.filter("bye", "*"), [])
 
+    def test_offers(self):
+        hello, note = Label("en", ["Hello"], False), Label("x-note", ["ask Anna"], False)
+        notes = written(("m", "en", ["Hello"]), ("m", "x-note", ["ask Anna"]))
+        for site in self.ways(notes):
+            for offer, field, default, wanted in [
+                (None, "x-note, en;q=0.5", None, hello),
+                (None, "x-note", None, None),
+                (None, "fr", "x-note", None),
+                ("*, x;q=0", "x-note, en;q=0.5", None, hello),
+                ("*", "x-note, en;q=0.5", None, note),
+                ("*", "fr", "x-note", note._replace(is_default=True)),
+                ("x", "x-note, en;q=0.5", None, note),
+                ("fr, de", "x-note, en;q=0.5", "en", None),
+                (",", "en", "en", None),
+                ("", "x-note, en;q=0.5", None, hello),
+                (b"en", "x-note, en;q=0.5", None, hello),
+            ]:
+                with self.subTest(offer=offer, field=field, default=default):
+                    words = {"default": default, "offer": offer}
+                    self.assertEqual(site.lookup("m", field, **words), wanted)
+                    texts = None if wanted is None else wanted.texts
+                    self.assertEqual(site.texts("m", field, **words), texts)
+                    self.assertEqual(site.text("m", field, **words), texts and texts[0])
+            self.assertEqual(site.filter("m", "*"), [Choice("en", 1000, ["Hello"])])
+            shown = site.filter("m", "*", offer="x-note")
+            self.assertEqual(shown, [Choice("x-note", 1000, ["ask Anna"])])
+
+    def test_offers_that_are_refused(self):
+        for site in self.ways():
+            for ask in (site.lookup, site.text, site.texts, site.filter):
+                fault = self.refuses(9, ask, "m", "e n, fr", offer="fr, en_US")
+                self.assertEqual(fault.offset, 4)
+                self.refuses(8, ask, "m", "en", offer="," * 65536)
+                self.refuses(10, ask, "@m", "en", offer="e n")
+                self.wrong_types([(lambda: ask("m", "en", offer=5), f"offer {TEXT} int")])
+
     def test_buffers(self):
         for site in self.ways():
             for kind in BUFFERS:
@@ -223,6 +259,17 @@ class Sites(Case):
         ]:
             with self.subTest(field=field, default=default):
                 self.assertEqual(self.site.bundle(field, default=default), wanted)
+
+    def test_bundle_of_an_offer(self):
+        notes = written(("m", "en", ["Hello"]), ("m", "x-note", ["ask Anna"]))
+        with Site.open(notes) as site:
+            for offer, wanted in [
+                (None, {"m": {"en": "Hello"}}),
+                ("*", {"m": {"x-note": "ask Anna"}}),
+                ("fr", {}),
+            ]:
+                got = site.bundle("x-note, en;q=0.5", default="en", offer=offer)
+                self.assertEqual(got, wanted)
 
     def test_wrong_types(self):
         site = self.site
@@ -501,7 +548,7 @@ class Libraries(unittest.TestCase):
 class Faults(unittest.TestCase):
     def test_what_a_refusal_says(self):
         subtag = "(each subtag is 1 to 8 letters or digits, with a hyphen between two)"
-        clash = "two different edits of a message in a language have two stamps"
+        clash = "two different edits of a message in a language have two timestamps"
         long, version = "each text of a label has at most 65535 bytes", "is 1 or 2"
         for fault, line in [
             (Refused(3, 2), f"3: subtag at 2 {subtag}"),

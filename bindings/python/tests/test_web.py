@@ -262,6 +262,37 @@ class Both(unittest.TestCase):
                         self.assertEqual(got.decode(), body)
                         self.assertEqual(values(headers, "content-language"), [language])
 
+    def test_what_readers_are_offered(self):
+        def text(given):
+            label = given[LABEL]("m")
+            return "none" if label is None else label.texts[0]
+
+        notes = cases.written(("m", "en", ["Hello"]), ("m", "x-note", ["ask Anna"]))
+        with Site.open(notes) as site:
+            for name, middleware, app, ask in WAYS:
+                for words, body in [
+                    ({}, "Hello"),
+                    ({"default": "x-note"}, "none"),
+                    ({"offer": "*"}, "ask Anna"),
+                    ({"offer": "fr"}, "none"),
+                ]:
+                    with self.subTest(name=name, words=words):
+                        asked = middleware(app(text=text), **{"site": site, "default": "en", **words})
+                        line = "fr" if "default" in words else "x-note"
+                        self.assertEqual(ask(asked, [line])[2].decode(), body)
+
+    def test_which_tags_are_offered(self):
+        for name, middleware, app, ask in WAYS:
+            for offer, line, tag in [
+                ("en, zh", "fr, zh-CN;q=0.5", b"zh-CN"),
+                ("en, zh", "fr", b"en"),
+                ("", "fr", b"fr"),
+                ("*, fr;q=0", "fr", b"en"),
+            ]:
+                with self.subTest(name=name, offer=offer, line=line):
+                    asked = middleware(app(), **OF_TAGS, offer=offer)
+                    self.assertEqual(ask(asked, [line])[2], tag)
+
     def test_a_field_that_is_refused_where_no_message_is_named(self):
         with Site.open(document("Hello")) as site:
             for name, middleware, app, ask in WAYS:
@@ -336,6 +367,9 @@ class Both(unittest.TestCase):
                 (Refused, {"tags": TAGS, "default": "e n"}),
                 (Refused, {"site": site, "default": "e n"}),
                 (Refused, {"site": site, "message": "@title"}),
+                (Refused, {"site": site, "offer": "e n"}),
+                (Refused, {"tags": TAGS, "offer": "e n"}),
+                (ValueError, {"tags": TAGS, "offer": "fr"}),
             ]:
                 for name, middleware, app, _ in WAYS:
                     with self.subTest(name=name, words=words), self.assertRaises(fault):

@@ -47,6 +47,11 @@ def given_or(text: Optional[Text], without: str) -> Text:
     return without if text is None else text
 
 
+def offered(offer: Optional[Text]) -> List[Any]:
+    """What readers are offered, as the calls take it: no text is all but private use."""
+    return words(offer=given_or(offer, ""))
+
+
 def lines(tags: Iterable[str]) -> str:
     """The tags, one on a line."""
     if isinstance(tags, (str, bytes, bytearray, memoryview)):

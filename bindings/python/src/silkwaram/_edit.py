@@ -135,5 +135,5 @@ def _add_to_log(file: str, log: "Log", by: str, lines: str) -> None:
     except OSError as why:
         import logging
 
-        words = "%s: its edit is made, and its log lacks it: %s"
+        words = "%s: the edit was made, but is not in the log: %s"
         logging.getLogger("silkwaram").warning(words, file, why)

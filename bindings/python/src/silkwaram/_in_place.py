@@ -65,7 +65,8 @@ def locked(path: str, wait: Optional[float]) -> Iterator[None]:
         while not _is_taken(lock, path, end is None):
             # (so NaN is no wait)
             if end is not None and not time.monotonic() < end:
-                raise TimeoutError(f"{path} is in use by another after {wait} seconds")
+                words = f"{path} is still in use by another program after {wait} seconds"
+                raise TimeoutError(words)
             time.sleep(SECONDS_BETWEEN_TRIES)
         yield
     finally:

@@ -4,7 +4,7 @@ from typing import Any, List, NamedTuple, NoReturn, Optional, Type, TypeVar
 
 from . import _answers
 from ._answers import Choice, Label
-from ._arguments import Text, flags, given_or, words
+from ._arguments import Text, flags, given_or, offered, words
 from ._arguments import place as counted_place
 from ._library import NOTHING, Answer
 
@@ -41,15 +41,18 @@ class Questions:
         extended: bool = False,
         lenient: bool = False,
         widen: bool = False,
+        offer: Optional[Text] = None,
     ) -> Optional[Label]:
         """Returns the label of a message that a reader gets, or None (RFC 4647 section 3.4).
 
-        The arguments are those of `pick`.
+        The arguments are those of `pick`. `offer` says which languages readers are offered, as an
+        Accept-Language header is written; without it all but those of private use, as `x-note`.
 
-        Refused: the id (10), the default (1 to 4), the field (8, 9).
+        Refused: the id (10), the default (1 to 4), the offer and the field (8, 9).
         """
         texts = words(id=id, field=given_or(field, "*"), default=given_or(default, ""))
-        answer = self._ask(self._calls.lookup, flags(extended, lenient, widen), *texts)
+        how = flags(extended, lenient, widen)
+        answer = self._ask(self._calls.lookup, *offered(offer), how, *texts)
         return None if answer.status == NOTHING else _answers.label(answer.text.decode())
 
     def text(
@@ -62,11 +65,13 @@ class Questions:
         extended: bool = False,
         lenient: bool = False,
         widen: bool = False,
+        offer: Optional[Text] = None,
     ) -> Optional[str]:
         """Returns the text at a place, from 0, of the label that `lookup` finds, or None."""
         texts = words(id=id, field=given_or(field, "*"), default=given_or(default, ""))
         how = flags(extended, lenient, widen)
-        answer = self._ask(self._calls.text, how, *texts, counted_place(place))
+        asked = [*offered(offer), how, *texts, counted_place(place)]
+        answer = self._ask(self._calls.text, *asked)
         return None if answer.status == NOTHING else answer.text.decode()
 
     def texts(
@@ -78,22 +83,29 @@ class Questions:
         extended: bool = False,
         lenient: bool = False,
         widen: bool = False,
+        offer: Optional[Text] = None,
     ) -> Optional[List[str]]:
         """Returns all texts of the label that `lookup` finds, or None."""
-        label = self.lookup(
-            id, field, default=default, extended=extended, lenient=lenient, widen=widen
-        )
+        how = {"extended": extended, "lenient": lenient, "widen": widen}
+        label = self.lookup(id, field, default=default, offer=offer, **how)
         return None if label is None else label.texts
 
     def filter(
-        self, id: Text, field: Optional[Text], *, extended: bool = False, lenient: bool = False
+        self,
+        id: Text,
+        field: Optional[Text],
+        *,
+        extended: bool = False,
+        lenient: bool = False,
+        offer: Optional[Text] = None,
     ) -> List[Choice]:
         """Returns the labels of a message that a reader takes, best first (RFC 4647 section 3.3).
 
         Refused: the id (10), the field (8, 9).
         """
         texts = words(id=id, field=given_or(field, "*"))
-        answer = self._ask(self._calls.filter, flags(extended, lenient), *texts)
+        how = flags(extended, lenient)
+        answer = self._ask(self._calls.filter, *offered(offer), how, *texts)
         return _answers.choices(answer.text.decode())
 
     def _ask(self, call: Any, *given: Any) -> Answer:

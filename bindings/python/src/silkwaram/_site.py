@@ -5,7 +5,7 @@ from typing import Any, List, Mapping, Optional, Union
 
 from . import _answers
 from ._answers import Change, LanguageMaps, Status
-from ._arguments import Text, flags, given_or, limit, moment, words, wrong_type
+from ._arguments import Text, flags, given_or, limit, moment, offered, words, wrong_type
 from ._library import CHECK_OWN, FIRST_ROOM, LABELS, USAGE, Answer, Handle, Told, answered, library
 from ._questions import Calls, Questions
 from ._refusals import NOT_JSON, Refused, checked
@@ -134,6 +134,7 @@ class Site(Questions):
         extended: bool = False,
         lenient: bool = False,
         widen: bool = False,
+        offer: Optional[Text] = None,
     ) -> LanguageMaps:
         """Returns all labels of one reader: of each message the one that `lookup` finds.
 
@@ -145,7 +146,7 @@ class Site(Questions):
         """
         texts = words(field=given_or(field, "*"), default=given_or(default, ""))
         how = flags(extended, lenient, widen)
-        return self._maps(library.sw_site_bundle, how, *texts)
+        return self._maps(library.sw_site_bundle, *offered(offer), how, *texts)
 
     # What a translator or an editor asks.
 

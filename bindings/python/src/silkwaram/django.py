@@ -11,7 +11,8 @@ fallbacks name, as `zh-CN` finds `zh-hans`, and its regions, as `pt` finds `pt-b
 
 `label` gives views the labels of the file that `SILKWARAM_SITE` names, and the template tag of the
 app `silkwaram` gives them to templates. If `SILKWARAM_MAPPED` is True, the file is asked where it
-lies (`silkwaram.mapped`), and not opened.
+lies (`silkwaram.mapped`), and not opened. `SILKWARAM_OFFER` says which languages readers are
+offered, as an Accept-Language header is written; without it all but those of private use.
 """
 import contextlib
 import functools
@@ -63,7 +64,7 @@ def label(request: Any, id: str) -> Optional[Label]:
     Refused: the id (10), the file as by `Site.open`. A file that cannot be read is an OSError.
     """
     field = f"{get_language() or settings.LANGUAGE_CODE}, {settings.LANGUAGE_CODE}"
-    return _site(request).lookup(id, field, lenient=True, widen=_widens())
+    return _site(request).lookup(id, field, lenient=True, widen=_widens(), offer=_offer())
 
 
 def _site(request: Any) -> Questions:
@@ -82,6 +83,10 @@ def _site(request: Any) -> Questions:
 @functools.lru_cache(maxsize=None)
 def _site_file(path: Any, is_mapped: bool) -> Union[SiteFile, MappedSite]:
     return MappedSite(path) if is_mapped else SiteFile(path)
+
+
+def _offer() -> Optional[str]:
+    return getattr(settings, "SILKWARAM_OFFER", None)
 
 
 def _widens() -> bool:

@@ -13,10 +13,12 @@ The application finds in its environ or scope, under the names that this module 
 
 The site is an open or a mapped `site`, or that of the file at `path`, which is read anew when the
 file was replaced: it is looked at once a second at most, and by a thread of its own. A file that is
-missing or broken leaves the site as it was; a warning is logged, and the file is tried again.
+missing or broken leaves the site as it was; a warning is logged, and the file is tried again. Its
+labels in languages of private use, as `x-note`, are shown to no reader, unless `offer` has them.
 
 A reader who refuses the default too gets it nevertheless, as RFC 9110 section 12.5.4 allows; with
-`strict` such a reader gets None. `widen` lets a language find its regions, as `en` finds `en-US`.
+`strict` such a reader gets None. A language finds its regions too, as `en` finds `en-US`; without
+`widen` it does not, as RFC 4647's lookup has it.
 
 Each response gets `Vary: Accept-Language` beside what the application varies by; a `Vary` of `*`
 stays. It gets `Content-Language`, unless the application sets one, the language is None or `@none`,
@@ -31,7 +33,7 @@ from typing import (
     Tuple, TypeVar,
 )
 
-from . import Label, Refused, pick
+from . import Label, Refused, filter_tags, pick
 from ._questions import Questions
 from ._site_file import Path, SiteFile
 
@@ -91,14 +93,19 @@ class _LanguageMiddleware(Generic[App]):
         path: Optional[Path] = None,
         message: Optional[str] = None,
         default: Optional[str],
+        offer: Optional[str] = None,
         lenient: bool = True,
-        widen: bool = False,
+        widen: bool = True,
         strict: bool = False,
     ) -> None:
         """Takes `tags`, a `site`, or the `path` of one. `default` may be None.
 
-        Refused: the default and the tags (1 to 4), the message (10), the file as by `Site.open`. A
-        file that cannot be read is an OSError.
+        `offer` says which of the tags, or of the languages of a site, readers are offered, as an
+        Accept-Language header is written; None is all tags, and all languages of a site but those
+        of private use.
+
+        Refused: the offer (8, 9), the default and the tags (1 to 4), the message (10), the file as
+        by `Site.open`. A file that cannot be read is an OSError.
         """
         if [tags, site, path].count(None) != 2:
             raise TypeError("one of tags, site and path must be given")
@@ -106,15 +113,19 @@ class _LanguageMiddleware(Generic[App]):
             raise TypeError("message is of a site")
         self.app, self._message, self._strict = app, message, strict
         self._rules: Dict[str, Any] = {"default": default, "lenient": lenient, "widen": widen}
+        self._labels = {**self._rules, "offer": offer}
         self._site = site if path is None else SiteFile(path)
         # (what the application gives is refused here, and never in a request)
         if self._site is not None:
             shared = self._site.share()
-            shared.lookup("-" if message is None else message, None, **self._rules)
+            id = "-" if message is None else message
+            shared.lookup(id, None, **self._labels)
         elif tags is not None:
             self._tags = tags if isinstance(tags, (str, bytes)) else list(tags)
+            if offer:
+                self._tags = [it.tag for it in filter_tags(offer, self._tags)]
             if pick(None, self._tags, default=default) is None and default is not None:
-                raise ValueError(f"the default {default!r} is not among the tags")
+                raise ValueError(f"the default {default!r} is not among the tags that are offered")
 
     def _reader(self, field: Optional[bytes]) -> _Reader:
         """Returns the reader of a field; a field that is refused counts as none."""
@@ -133,7 +144,7 @@ class _LanguageMiddleware(Generic[App]):
         site = self._site.share()
 
         def label(id: str) -> Optional[Label]:
-            return self._found(lambda it: site.lookup(id, it, **self._rules), field)
+            return self._found(lambda it: site.lookup(id, it, **self._labels), field)
 
         first = None if self._message is None else label(self._message)
         language = None if first is None else first.language
