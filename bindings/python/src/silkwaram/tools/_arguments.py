@@ -27,12 +27,12 @@ class Arguments(argparse.ArgumentParser):
 def language(word: str) -> str:
     """A language of the arguments, in lower case."""
     if not TAG.fullmatch(word):
-        raise argparse.ArgumentTypeError(f"{word} is no language tag")
+        raise argparse.ArgumentTypeError(f"{word} is not a language tag")
     return word.lower()
 
 
 def domain_name(word: str) -> str:
     """A domain of the arguments, which leaves room for a digest."""
     if not 0 < len(word.encode()) <= 56 or re.search(r"[/\x00-\x1f\x7f]|^@", word):
-        raise argparse.ArgumentTypeError(f"{word} is no domain")
+        raise argparse.ArgumentTypeError(f"{word} is not a domain")
     return word

@@ -94,7 +94,7 @@ def _run_program(words: Sequence[Union[str, bytes]], given: bytes) -> Ran:
     found = shutil.which(program)
     if found is None:
         raise Fault(
-            f"there is no {program}, nor the library {NAME}: name one by LEXICAT or"
+            f"there is neither {program} nor the library {NAME}: set LEXICAT or"
             " SILKWARAM_COMMAND_LIBRARY", NO_PROGRAM,
         )
     done = subprocess.run([found, *words], input=given, capture_output=True, check=False)

@@ -87,7 +87,7 @@ def _since(text: Optional[str]) -> Optional[str]:
         except (ValueError, OverflowError):
             continue
     raise Fault(
-        f"--since {text} is no day, as 2026-12-01, and no moment, as 2026-12-01 10:00", USAGE
+        f"--since {text} is neither a day (2026-12-01) nor a time (2026-12-01 10:00)", USAGE
     )
 
 
@@ -127,7 +127,7 @@ def doctor(place: Place, site: bytes, status: Status) -> Tuple[List[str], bool]:
     ]
     if share > NEAR:
         faults.append(
-            "the site is near the most that a command reads: docs/SCALING.md has how to cut it"
+            "the site is near the most that a command reads: docs/SCALING.md says how to split it"
         )
     if status.last is None:
         lines.append("last edit: none")
@@ -135,8 +135,8 @@ def doctor(place: Place, site: bytes, status: Status) -> Tuple[List[str], bool]:
         lines.append(f"last edit: {moment_of(status.last.time)}, by {status.last.site}")
         if status.last.time > clock() + MILLISECONDS_OF_A_DAY:
             faults.append(
-                "an edit is more than a day ahead of this clock: others refuse it, and all that is"
-                " sent with it; see that the clocks are right"
+                "an edit is more than a day ahead of this clock: other sites refuse it, and all"
+                " that is sent with it; check that the clocks are right"
             )
     lines += _lines_of_log(place.log)
     try:

@@ -67,7 +67,7 @@ def _fault_of_json(text: bytes) -> str:
     try:
         json.loads(text)
     except UnicodeDecodeError as fault:
-        return f"byte {fault.start} is no UTF-8"
+        return f"byte {fault.start} is not UTF-8"
     except json.JSONDecodeError as fault:
         return f"line {fault.lineno}, column {fault.colno}: {fault.msg}"
     except (ValueError, RecursionError):
@@ -103,9 +103,12 @@ def _why(number: int, words: str, row: List[Any]) -> str:
         return f"its time, {when}, is more than a day ahead of this clock, or after the limit"
     if number == OWN_MISSING:
         return (
-            "this site made that edit, and lacks it: it was put back to an older copy, or another"
-            " site has its name (--no-check-own takes the edit in)"
+            "this site made that edit, and lacks it: the site was put back to an older copy, or"
+            " another site has its name (--no-check-own applies the edit)"
         )
     if number == CLASH:
-        return "both sites have another text of it under one stamp, so one of them was put back"
+        return (
+            "the two sites have different texts under one timestamp, so a site was put back, or two"
+            " sites have one name"
+        )
     return words

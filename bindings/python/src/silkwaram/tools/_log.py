@@ -80,7 +80,7 @@ class Log:
         file = os.open(self.path, flags | os.O_CLOEXEC | os.O_NOFOLLOW | os.O_NONBLOCK, 0o666)
         if not stat.S_ISREG(os.fstat(file).st_mode):
             os.close(file)
-            raise OSError(errno.EINVAL, "no plain file", self.path)
+            raise OSError(errno.EINVAL, "not a plain file", self.path)
         return file
 
     def add(self, by: str, rows: Sequence[bytes], mode: int, sites: Optional[List[str]]) -> None:

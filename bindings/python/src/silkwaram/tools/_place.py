@@ -69,7 +69,7 @@ class Place:
 
     def expect_editable(self) -> None:
         """The same if it may not be written, or has another name: a hard link would keep the former
-        site, and who edits that one uses the stamps of this one again."""
+        site, and who edits that one uses the timestamps of this one again."""
         self.expect_readable()
         if not os.access(self.path, os.W_OK):
             raise Fault(f"{self.name}: not a file that may be written")
@@ -102,13 +102,13 @@ class Place:
         """Holds the lock, the file SITE.lock, which `silkwaram.edit` takes too."""
         lock = f"{self.path}.lock"
         if os.path.lexists(lock) and (os.path.islink(lock) or not os.path.isfile(lock)):
-            raise Fault(f"{self.name}: its lock is no plain file: {lock}")
+            raise Fault(f"{self.name}: its lock is not a plain file: {lock}")
         try:
             with _in_place.locked(self.path, self.wait):
                 _in_place.remove_leftovers(self.path)
                 yield
         except TimeoutError:
-            words = f"{self.name}: in use by another after {self.wait} seconds"
+            words = f"{self.name}: still in use by another program after {self.wait} seconds"
             raise Fault(words, IN_USE) from None
         except _in_place.LockFault as fault:
             words = f"its lock cannot be taken: {fault.strerror}"
@@ -130,15 +130,15 @@ class Place:
         self.program.tell(
             f"{self.name}: is older than its log, {self.log.path}: it lacks the edit of"
             f" {compact(lacked.id)} in {lacked.language} of {when}, so it was put back to an older"
-            " copy. If it were edited, other sites would have other texts under the same stamps"
+            " copy. If it were edited, other sites would have other texts under the same timestamps"
         )
         raise Fault(
-            "to go on, make a site of a new name of it and of the sites of others: lexicat-file"
+            "to go on, make a site with a new name from it and the other sites: lexicat-file"
             f" NEW.json restore {self.name} --site NAME OTHER..", REFUSED,
         )
 
     def make(self, site: bytes) -> None:
-        """Makes the file of a new site. No site of its name was here: it would use its stamps
+        """Makes the file of a new site. No site of its name was here: it would use its timestamps
         again."""
         status = status_of(site)
         if status and self.log.last_own(status.site) is not None:
@@ -153,7 +153,7 @@ class Place:
         the same is left alone; that there was an exchange, with the `sites`, is logged all the
         same."""
         if not (new.startswith(OPENING) and new.endswith(CLOSING)):
-            raise Fault(f"{self.name}: what lexicat made is no site")
+            raise Fault(f"{self.name}: what lexicat made is not a site")
         if len(new) > LIMIT:
             raise Fault(
                 f"{self.name}: would have {len(new)} bytes, over the {LIMIT} that a command reads",
@@ -179,9 +179,9 @@ class Place:
             self.log.add(by, rows, stat.S_IMODE(os.stat(self.path).st_mode), sites)
         except OSError as fault:
             is_none = fault.errno in NO_LOG
-            why = "is no plain file that may be written" if is_none else fault.strerror
+            why = "is not a plain file that may be written" if is_none else fault.strerror
             self.program.tell(
-                f"{self.name}: its edit is made, and its log lacks it: {self.log.path}: {why}"
+                f"{self.name}: the edit was made, but is not in the log: {self.log.path}: {why}"
             )
 
     def _tell_overridden(self, new: bytes, lines: bytes) -> None:

@@ -202,7 +202,7 @@ def parsed(data: bytes, name: str) -> File:
         try:
             reader.take(line.strip(), number)
         except ValueError:
-            raise Refused(f"{name}: line {number} is no whole line of a PO file") from None
+            raise Refused(f"{name}: line {number} is not a whole line of a PO file") from None
     reader.check(name)
     file, header = File(), None
     for it in reader.entries:

@@ -76,7 +76,7 @@ class Program:
                 self.tell(str(fault))
             return fault.status
         except UnicodeEncodeError:
-            self.tell("a text is no Unicode: it has half of a surrogate pair")
+            self.tell("a text is not Unicode: it has half of a surrogate pair")
             return REFUSED
         except KeyboardInterrupt:
             return 130

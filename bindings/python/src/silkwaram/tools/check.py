@@ -17,17 +17,17 @@ HELP = """\
 Usage: lexicat-check --source LANG [--lang LANG] [--only KIND] [SITE]
 
 Reads a site, from the file SITE or from standard input, and prints a line
-for each label that is not as it has to be beside its source:
+for each label that does not fit its source:
 
   placeholders   it lacks {name}, %s, %1$s, <b> or the like, or has others
-  blanks         it begins or ends with other blanks or line feeds
+  blanks         it begins or ends with other spaces or line feeds
   lengths        it has more characters than a line `max N` in x-note allows
 
-The status is 1 if there is a line, and 0 if there is none.
+The status is 1 if a line is printed, and 0 otherwise.
 
   --source LANG    the language that is translated
-  --lang LANG      look at this language alone
-  --only KIND      look for placeholders, blanks or lengths alone
+  --lang LANG      check only this language
+  --only KIND      look only for placeholders, blanks or lengths
   -h, --help       print this
   --version        print the version
 """

@@ -21,13 +21,14 @@ USAGE_TEXT = """\
 Usage: lexicat-edit [--missing LANG] SITE [LANG..]
 
 Opens the labels of the site in the file SITE in $VISUAL, $EDITOR or vi, all of
-them or those of the languages LANG.., and passes on what was changed. If a message
-has no label of a LANG, it has null: write the label in its place. A label
+them or those in the languages LANG.., and saves what was changed. If a message
+has no label in a LANG, it has null there: write the label in its place. A label
 that is left out or made null is deleted. Prints a line for each change:
-[ID,LANGUAGE,LABEL], where LABEL is null if it was deleted; a fourth member is
-the label that somebody else had made of it meanwhile.
+[ID,LANGUAGE,LABEL], where LABEL is null if it was deleted. A fourth member is
+the label that somebody else had saved there meanwhile.
 
-  --missing LANG    only the messages without a label of LANG, with a place for it
+  --missing LANG    only the messages without a label in LANG, with null in its
+                    place
   -h, --help        print this
   --version         print the version
 """
@@ -54,7 +55,7 @@ def _main(words: List[str]) -> int:
         else:
             PROGRAM.misused(f"no option {words[0]}")
     if not words:
-        PROGRAM.misused("SITE is wanted")
+        PROGRAM.misused("SITE is needed")
     site, *languages = words
     for it in [*languages, *([missing] if missing else [])]:
         _expect_language(it)
@@ -66,7 +67,7 @@ def _expect_language(lang: str) -> None:
     ran = run(["pick", "--", "*", lang])
     if ran.status > NOTHING:
         tell_refusal(PROGRAM, ran.errors)
-        raise Fault(f"no language: {lang}", ran.status)
+        raise Fault(f"not a language tag: {lang}", ran.status)
 
 
 def _edit(site: str, languages: List[str], missing: Optional[str]) -> int:
@@ -74,7 +75,7 @@ def _edit(site: str, languages: List[str], missing: Optional[str]) -> int:
     file = ExchangedFile(site, None, PROGRAM)
     maps = file.labels(missing)
     if not maps and missing:
-        raise Fault(f"no message is without {missing}", NOTHING)
+        raise Fault(f"no message lacks a label in {missing}", NOTHING)
     draft = Draft(site, _shown(maps, languages, missing))
     try:
         while True:
@@ -149,7 +150,7 @@ class Draft:
         if status == 0 or self._is_as_laid_out():
             shutil.rmtree(self._folder, ignore_errors=True)
             return
-        PROGRAM.tell(f"{self.site} is as it was, and your text is kept. To pass it on:")
+        PROGRAM.tell(f"{self.site} is as it was, and your text is kept. To save it:")
         words = ["lexicat-file", self.site, "update", self._old_name, self._name]
         line = f"    {' '.join(map(shlex.quote, words))}\n"
         PROGRAM.tell_bytes(line.encode("utf-8", "surrogateescape"))
@@ -158,7 +159,7 @@ class Draft:
 def _pass_on(file: ExchangedFile, old: Maps, text: bytes) -> Tuple[int, List[str]]:
     """Makes edits of what was changed, and returns the status and a line for each change."""
     if not text.strip():
-        PROGRAM.tell("your text is empty, and nothing is passed on: a text of {} deletes all")
+        PROGRAM.tell("your text is empty, and nothing was saved; a text of {} deletes all")
         return REFUSED, []
     before = file.labels(None)
     try:

@@ -22,9 +22,9 @@ USAGE_TEXT = """\
 Usage: lexicat-exchange [--key-file FILE] [--wait SECONDS] [--every TIME] URL SITE
 
 Exchanges the site in the file SITE with that of the server at URL, as the
-editor's page does: sends what the server lacks, takes what it has, and prints
-how many labels and deletions went each way. Each step may be lost, or done
-twice. If nothing could be taken, SITE is as it was.
+editor's page does: sends what the server lacks, applies what it has, and prints
+how many labels and deletions went each way. A step that is lost, or done twice,
+does no harm. If nothing could be applied, SITE is as it was.
 
   --key-file FILE   the first line of FILE is the key that the server asks for
   --wait SECONDS    wait no longer than this for the lock of SITE
@@ -84,14 +84,14 @@ def _arguments(words: List[str]) -> argparse.Namespace:
 
 def _seconds(word: str) -> int:
     if not re.fullmatch("[0-9]{1,9}", word, re.ASCII):
-        raise argparse.ArgumentTypeError("SECONDS is no whole number")
+        raise argparse.ArgumentTypeError("SECONDS is not a whole number")
     return int(word)
 
 
 def _time(word: str) -> int:
     """The seconds of a time."""
     if not re.fullmatch("[0-9]{1,6}[smh]", word, re.ASCII):
-        raise argparse.ArgumentTypeError("TIME is a whole number with s, m or h behind it, as 15m")
+        raise argparse.ArgumentTypeError("TIME is a whole number followed by s, m or h, as 15m")
     return int(word[:-1]) * UNITS[word[-1]]
 
 
@@ -102,7 +102,7 @@ def _address(word: str) -> str:
     except ValueError:
         is_address = False
     if not is_address:
-        raise argparse.ArgumentTypeError(f"{word} is no address of http or https")
+        raise argparse.ArgumentTypeError(f"{word} is not an address of http or https")
     return word
 
 
@@ -165,12 +165,13 @@ def _ask(server: Server, method: str, path: str, body: Optional[bytes] = None) -
         raise Fault(f"no answer: {fault or type(fault).__name__}", NOBODY) from None
     if answer.headers.get(HEADER) is None:
         raise Fault(
-            f"{server.url}/{path}: status {answer.status}, and no server that exchanges", NOBODY
+            f"{server.url}/{path}: status {answer.status}, from a server that does not exchange",
+            NOBODY,
         )
     if answer.status == 401:
         raise Fault("the server asks for its key (--key-file)", REFUSED)
     if answer.status != 200:
-        raise Fault(f"the server did not do it (status {answer.status}): {_words(text)}", REFUSED)
+        raise Fault(f"the server answered status {answer.status}: {_words(text)}", REFUSED)
     return text
 
 

@@ -31,13 +31,13 @@ To edit:
   import [MAPS]           puts the labels of language maps into SITE
   update [OLD NEW]        makes the edits that lead from OLD to NEW language maps
   confirm [ID..]          gives a new time to labels that are older than their
-                          source (--lang LANG --source LANG), and still right
-  undo FORMER [ID..]      takes back what was edited at SITE since it was as in
-                          the file FORMER; what came from other sites stays
+                          source (--lang LANG --source LANG), but still right
+  undo FORMER [ID..]      takes back the edits of SITE since its state in the file
+                          FORMER; edits that came from other sites stay
 To exchange:
-  take [DELTA]            takes in a delta
+  take [DELTA]            applies a delta
   sync OTHER              merges the sites in the files SITE and OTHER
-  merge FILE..            takes in the sites in other files
+  merge FILE..            merges the sites in other files into SITE
   summary, delta [SUMMARY]
                           print what others need
 To see what happened:
@@ -51,21 +51,21 @@ To read:
   status, export, missing, outdated, filter, lookup, bundle
 To begin again after a loss:
   restore BACKUP --site NAME [OTHER..]
-                          makes SITE, of a new name, of a backup and of the sites
-                          of others
+                          makes SITE, with a new name, from a backup and other
+                          sites
 
-ARG.. are the command's own: see lexicat help COMMAND. Documents that no file is
-named for are read from standard input. If no --now is given, it is the clock's
-milliseconds; one of more than a day ahead wants --force. take, sync and merge
-refuse times of more than a day ahead of the clock, or after --not-after
-(--no-limit takes them), and what shows that SITE was put back to an older copy
-or has the name of another site (--no-check-own takes it).
+ARG.. are the command's own: see lexicat help COMMAND. A document is read from
+standard input if no file is named for it. Without --now the clock's
+milliseconds are used; a time of more than a day ahead needs --force. take, sync
+and merge refuse times of more than a day ahead of the clock, or after
+--not-after (--no-limit applies them), and edits that SITE made and lacks, since
+it was put back or shares its name (--no-check-own applies them).
 delete does nothing if there is no such label (status 1), unless --force is
-given. What edits holds the lock SITE.lock. If it fails, SITE is as it was, and
-the status is not 0. What changed is added to the log, SITE.changes.
+given. An edit holds the lock SITE.lock. If it fails, SITE is as it was, and the
+status is not 0. What changed is added to the log, SITE.changes.
 
   --wait SECONDS    wait no longer than this for a lock, else end with status 6
-  --keep DAYS       keep the lines of the log so long (400)
+  --keep DAYS       keep the lines of the log for so many days (400)
   -h, --help        print this
   --version         print the version
 """
@@ -108,7 +108,7 @@ def main(words: Optional[List[str]] = None) -> int:
 def _main(words: List[str]) -> int:
     wait, keep, words = _own_options(words)
     if len(words) < 2:
-        PROGRAM.misused("SITE and COMMAND are wanted")
+        PROGRAM.misused("SITE and COMMAND are needed")
     name, command, *rest = words
     if command not in COMMANDS:
         if name in COMMANDS:
@@ -143,7 +143,8 @@ def _own_options(words: List[str]) -> Tuple[Optional[int], Optional[int], List[s
         if not equals:
             value, words = (words[1] if len(words) > 1 else ""), words[1:]
         if not re.fullmatch("[0-9]{1,9}", value, re.ASCII):
-            PROGRAM.misused(f"{'SECONDS' if option == '--wait' else 'DAYS'} is no whole number")
+            name = "SECONDS" if option == "--wait" else "DAYS"
+            PROGRAM.misused(f"{name} is not a whole number")
         values[option], words = int(value), words[1:]
     return values["--wait"], values["--keep"], words
 
@@ -326,7 +327,7 @@ def _put(call: Call) -> int:
     if language is None or _value("--id", words) is None:
         text = " TEXT.." if call.command == "put" else ""
         raise Fault(
-            f"lexicat-file {call.name} {call.command} --id ID --lang LANG{text} is wanted", USAGE
+            f"the form is lexicat-file {call.name} {call.command} --id ID --lang LANG{text}", USAGE
         )
     time = _value("--now", words)
     if time is None:
@@ -339,8 +340,8 @@ def _put(call: Call) -> int:
         _warn_of_language(language, old, new)
         if call.command == "delete" and not force and _labels(old) == _labels(new):
             raise Fault(
-                f"{call.name}: has no such label, and is as it was (--force: other sites may have"
-                " it)", NOTHING,
+                f"{call.name}: has no such label, and is as it was (use --force if other sites may"
+                " have it)", NOTHING,
             )
         return new
 
@@ -359,8 +360,8 @@ def _expect_near(time: str) -> None:
     is_time = re.fullmatch(r"\+?0*[0-9]{1,20}", time, re.ASCII)
     if is_time and int(time) > clock() + MILLISECONDS_OF_A_DAY:
         raise Fault(
-            f"--now {time} is more than a day ahead of the clock, and other sites would refuse the"
-            " edit, and all that are sent with it (--force makes it)", REFUSED,
+            f"--now {time} is more than a day ahead of the clock; other sites would refuse the"
+            " edit, and all that are sent with it (--force overrides this)", REFUSED,
         )
 
 
@@ -371,8 +372,8 @@ def _warn_of_language(language: str, old: bytes, new: bytes) -> None:
     key = f'","{first.lower()}'.encode()
     if re.fullmatch("[A-Za-z]{5,8}", first, re.ASCII) and key not in old and key in new:
         PROGRAM.tell(
-            f"{first} is a language from now on, though none is called so: no reader's browser asks"
-            " for it (English is en)"
+            f"{first} is now a language of this site, but no language is called so, and no browser"
+            " asks for it (English is en)"
         )
 
 
@@ -446,11 +447,12 @@ def _site_of(document: bytes) -> Optional[str]:
 def _refuse_copy(name: str, other: str, site: str) -> None:
     """Ends the program, as two files are one site: one is a copy of the other."""
     PROGRAM.tell(
-        f"{name} and {other} are both site {site}, and of two files of one site edits are lost"
+        f"{name} and {other} are both site {site}; if both are edited, edits are lost"
     )
     raise Fault(
-        f"make a site of another name (lexicat-file NEW new --site NAME), merge {other} into it, and"
-        f" use that in place of {other}; its first sync with {name} wants --no-check-own", REFUSED,
+        f"make a site with another name (lexicat-file NEW new --site NAME), merge {other} into it,"
+        f" and use that in place of {other}; its first sync with {name} needs --no-check-own",
+        REFUSED,
     )
 
 
@@ -491,14 +493,14 @@ def _confirm(call: Call) -> int:
     given = _given(call)
     language, source = given.value("--lang"), given.value("--source")
     if language is None or source is None:
-        PROGRAM.misused(f"confirm wants --{'source' if language else 'lang'} LANG")
+        PROGRAM.misused(f"confirm needs --{'source' if language else 'lang'} LANG")
 
     def make(old: bytes) -> bytes:
         words = ["outdated", f"--lang={language}", f"--source={source}"]
         outdated = _answer(words, [(call.name, old)], NOTHING)
         maps, others = labels_to_confirm(outdated, str(language), given.names)
         for it in others:
-            PROGRAM.tell(f"{it}: is not older")
+            PROGRAM.tell(f"{it}: has no label older than its source")
         if maps is None:
             raise Fault(
                 f"{call.name}: no label of {language} is older than that of {source}: nothing is"
@@ -521,7 +523,7 @@ def _undo(call: Call) -> int:
         site = _site_of(old)
         edits = edits_to_undo(lines, str(site), ids) if site == _site_of(before[1]) else None
         if edits is None:
-            raise Fault(f"{former}: is no former state of {call.name}", REFUSED)
+            raise Fault(f"{former}: is not a former state of {call.name}", REFUSED)
         if not edits:
             raise Fault(
                 f"{call.name}: has no edits of its own since {former}: nothing is done", NOTHING
@@ -545,7 +547,7 @@ def _conflicts(call: Call) -> int:
         edits = _history().edit_to_have_mine(log, old, name, id, language.lower())
         if edits is None:
             raise Fault(
-                f"{call.name}: no text of this site in {language} of {id} is overridden", NOTHING
+                f"{call.name}: no text of this site for {id} in {language} was overridden", NOTHING
             )
         return _joining(call, ["update", *given.now()], ("the labels", edits))(old)
 
@@ -557,7 +559,7 @@ def _restore(call: Call) -> int:
     given = _given(call)
     name = given.value("--site")
     if name is None:
-        PROGRAM.misused("restore wants --site NAME, a name that no site has had")
+        PROGRAM.misused("restore needs --site NAME, a name that no site has had")
     call.place.expect_none()
     made = _answer(["new", "--site", str(name)], [])
     sites: List[str] = []
@@ -565,7 +567,7 @@ def _restore(call: Call) -> int:
         call.place.expect_none()
         merged = _merged(call, made, given, sites)
         if name in sites:
-            raise Fault(f"a site {name} is among those: a new name is wanted", REFUSED)
+            raise Fault(f"a site {name} is among those: choose a new name", REFUSED)
         call.place.make(merged)
     PROGRAM.tell(f"{call.name}: is site {name} now, with {count_of(_labels(merged) or 0, 'label')}")
     return 0
@@ -583,8 +585,8 @@ class ExchangedFile:
         return _answer(words, [(self._call.name, one_line(site)), *others])
 
     def summary(self) -> bytes:
-        """The summary of the site, with digests of its labels: a text that differs under one stamp
-        is sent then, and refused as a clash (13)."""
+        """The summary of the site, with digests of its labels: a text that differs under one
+        timestamp is sent then, and refused as a duplicate timestamp (13)."""
         return self._asked(["summary", "--labels"])
 
     def delta(self, name: str, summary: bytes) -> bytes:

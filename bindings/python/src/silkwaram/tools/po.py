@@ -18,7 +18,7 @@ from ._maps import (
     CONTROLS, FLAGS, ID_LIMIT, NOTES, TAG, Misfit, Misfits, check_label, counted, language_maps,
     read_site, site_in,
 )
-from ._shared import Program, Refused, print_text, quoted, read_file
+from ._shared import Program, Refused, count_of, print_text, quoted, read_file
 
 HELP = """\
 Usage: lexicat-po out --lang LANG --source LANG [SITE] > FILE.po
@@ -26,8 +26,9 @@ Usage: lexicat-po out --lang LANG --source LANG [SITE] > FILE.po
        lexicat-po confirmed --lang LANG --source LANG SITE FILE.po
        lexicat-po maps --source LANG FILE.po..
 
-  out          writes a PO file: an entry for each message with a label of the
-               source language, marked fuzzy if that label is the later one
+  out          writes a PO file: an entry for each message with a label in the
+               source language, marked fuzzy if that label is later than the
+               translation
   in           prints the old and the new language maps, for lexicat update, of
                the entries of FILE.po that are translated and not fuzzy
   confirmed    prints language maps, for lexicat import, of the labels that are
@@ -35,17 +36,18 @@ Usage: lexicat-po out --lang LANG --source LANG [SITE] > FILE.po
   maps         prints language maps, for lexicat import, of PO files that did
                not come from a site, each in one language
 
-An entry's msgctxt is the id of its message. What does not fit is named on
-standard error, all else is done, and the status is 7.
+An entry's msgctxt is the id of its message. Messages that cannot be used are
+listed on standard error; all else is done, and the status is 7.
 
-  --lang LANG            the language of the translations; for maps without it
-                         that which a file states, or else its name
+  --lang LANG            the language of the translations; for maps the default
+                         is what a file states, or its name
   --source LANG          the language that is translated
-  --sent FILE            for in: the PO file as it was sent. What it has too
-                         changes nothing; else that is what the site has
-  --like FILE            for out and in: a PO file of the language, whose plural
-                         rule is taken, and by out the rest of its header too
-  --plural-forms FORMS   the plural rule, as 'nplurals=2; plural=n != 1;'
+  --sent FILE            for in: the PO file as it was sent. Entries that are
+                         the same in it change nothing. Without it the digests
+                         in FILE.po say what was sent, or else the site does
+  --like FILE            for out and in: a PO file of the language. Its plural
+                         rule is used, and by out the rest of its header too
+  --plural-forms FORMS   the plural rule, such as 'nplurals=2; plural=n != 1;'
   --domain NAME          for maps: what the ids begin with, before a slash
   -h, --help             print this
   --version              print the version
@@ -285,7 +287,7 @@ def check_source(texts, lang):
     """Refuses a source that can be no msgid and msgid_plural."""
     check_texts(texts, lang)
     if "" in texts:
-        raise Misfit(f"its label in {lang} has an empty text, which is no msgid")
+        raise Misfit(f"its label in {lang} has an empty text, which cannot be a msgid")
     if len(texts) > 2:
         raise Misfit(f"its label in {lang} has {counted(texts)}, "
                      "and PO files have a msgid and a msgid_plural")
@@ -296,7 +298,7 @@ def check_beside(labels, lang):
     for beside in (NOTES, comments_of(lang)):
         check_texts(texts_in(labels, beside), beside)
     if not all(map(is_flag, texts_in(labels, FLAGS))):
-        raise Misfit(f"its label in {FLAGS} has a text that is no flag")
+        raise Misfit(f"its label in {FLAGS} has a text that is not a flag")
 
 
 def check_line_feeds(texts, source):
@@ -401,7 +403,7 @@ def rule_in(header, name):
     try:
         return rule_of(text) if text else None
     except ValueError:
-        raise Refused(f"{name}: its Plural-Forms are no plural rule") from None
+        raise Refused(f"{name}: its Plural-Forms are not a plural rule") from None
 
 
 # The digests of an entry, on a line of its note.
@@ -457,7 +459,7 @@ def returned(po, name, args, messages, misfits):
             repeated.add(message)
         entries[message] = entry_in(entry)
     for message in sorted(repeated):
-        misfits.tell(message, f"is twice in {name}")
+        misfits.tell(message, f"is there twice in {name}")
         del entries[message]
     return Returned(rule_in(po.fields, name), entries, found)
 
@@ -526,10 +528,10 @@ def edits_of(entry, old, labels, args):
 def check_translation(entry, labels, forms, args):
     """Refuses a translation that is none of what the site has now."""
     if not any(entry.texts):
-        raise Misfit("it was emptied, which is no deletion: its label stays "
-                     "(lexicat delete takes it away)")
+        raise Misfit("it was emptied, which does not delete it: its label stays "
+                     "(lexicat delete removes it)")
     if entry.source != labels[args.source].texts:
-        raise Misfit(f"its label in {args.source} is another one now: "
+        raise Misfit(f"its label in {args.source} has changed since: "
                      f"{quoted(entry.source)} was translated")
     check_source(entry.source, args.source)
     if len(entry.source) == 2:
@@ -581,7 +583,7 @@ def edits_in(messages, came, sent, args, misfits):
 def leave_last(came, misfits):
     """Leaves out the last entry of a file that lacks some: it may lack its last lines too."""
     for message in list(came.entries)[-1:]:
-        misfits.tell(message, "is the last one of a file that lacks entries, so it may be cut")
+        misfits.tell(message, "is the last entry of a file that lacks entries, so it may be cut")
         del came.entries[message]
 
 
@@ -590,7 +592,8 @@ def tell_overridden(message, entry, labels, edits, args):
     now = texts_in(labels, args.lang)
     if args.lang in edits and entry.sent and digest(now) != entry.sent[0]:
         was = ", ".join(map(quoted, now)) or "deleted"
-        args.tell(f"{quoted(message)}: was {was} since it was sent, which this file overrides")
+        args.tell(f"{quoted(message)}: became {was} after it was sent, "
+                  "and this file overrides that")
 
 
 def read_in(args):
@@ -604,8 +607,8 @@ def read_in(args):
         sent = read_po(args.sent, args, messages, Misfits(lambda _: None))
     before, after = edits_in(messages, came, sent, args, misfits)
     if count:
-        args.tell(f"{count} older than the source and confirmed without a change: "
-                  "lexicat-po confirmed prints them")
+        args.tell(f"{count_of(count, 'label')} older than the source and confirmed without a "
+                  "change: lexicat-po confirmed prints them")
     print_text(before + after)
     return misfits.status()
 
@@ -720,7 +723,7 @@ def plural_rule(word):
     try:
         return rule_of(word)
     except ValueError:
-        raise argparse.ArgumentTypeError(f"{word} is no plural rule") from None
+        raise argparse.ArgumentTypeError(f"{word} is not a plural rule") from None
 
 
 def arguments(words):
@@ -745,7 +748,7 @@ def arguments(words):
             command.add_argument("file")
     args = parser.parse_args(words)
     if args.lang == args.source:
-        parser.error("--lang and --source are one language")
+        parser.error("--lang and --source are the same language")
     return args
 
 
@@ -767,10 +770,10 @@ def given(lang, source, tell):
     args.tell = tell
     for it in (lang, source):
         if not TAG.fullmatch(it):
-            raise Refused(f"{quoted(it)} is no language tag")
+            raise Refused(f"{quoted(it)} is not a language tag")
     args.lang, args.source = lang.lower(), source.lower()
     if args.lang == args.source:
-        raise Refused("both languages are one")
+        raise Refused("both languages are the same")
     return args
 
 

@@ -82,7 +82,8 @@ OWN = {**DELTA, "cells": [["hi", "fr", 5, "paris", 7, ["Salut"]]]}
 # Of each server what it answers otherwise, the status, and a part of what is said.
 SERVERS = {
     "a page of a network": (
-        {"summary": (200, {"Silkwaram-Exchange": None}, [b"<html>"])}, NOBODY, "no server that exchanges",
+        {"summary": (200, {"Silkwaram-Exchange": None}, [b"<html>"])}, NOBODY,
+        "a server that does not exchange",
     ),
     "a summary that is garbage": ({"summary": (200, {}, [b"garbage"])}, REFUSED, "refused"),
     "a summary that is empty": ({"summary": (200, {}, [b""])}, REFUSED, "refused"),

@@ -78,7 +78,7 @@ broken_files() {
     reports 'left no text'
     ends 3 lexicat-edit paris.json en f_r
     remedy 3 'refused 3: subtag at 0'
-    reports 'no language: f_r'
+    reports 'not a language tag: f_r'
     same paris.json before
     # A second try mends it.
     echo y > yes

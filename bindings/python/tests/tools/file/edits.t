@@ -49,13 +49,13 @@ confirms() {
     edited
     cp paris.json before
     ends 1 lexicat-file paris.json confirm --lang fr --source en no
-    reports 'no: is not older'
+    reports 'no: has no label older than its source'
     ends 2 lexicat-file paris.json confirm --lang fr hi
     ends 3 lexicat-file paris.json confirm --lang f --source en
     remedy 4 'refused 4: tag is not well-formed'
     same paris.json before
     ends 0 lexicat-file paris.json confirm --now 7 --lang FR --source=en hi no
-    reports 'no: is not older'
+    reports 'no: has no label older than its source'
     ends 0 lexicat-file paris.json outdated --lang fr --source en
     prints '{"bye":{"en":"Bye!","fr":"Salut"}}'
     ends 0 lexicat-file paris.json confirm --lang fr --source en
@@ -94,7 +94,7 @@ undoes() {
     ends 1 lexicat-file paris.json undo former
     reports 'has no edits of its own since former'
     ends 3 lexicat-file paris.json undo tokyo.json
-    reports 'tokyo.json: is no former state of paris.json'
+    reports 'tokyo.json: is not a former state of paris.json'
     ends 3 lexicat-file paris.json undo maps
     remedy 20 'refused 20: shape of document 1'
     ends 4 lexicat-file paris.json undo nowhere
@@ -106,7 +106,7 @@ undoes() {
     lexicat-file later put --id hi --lang fr Salut
     for state in edited later; do
         ends 3 lexicat-file paris.json undo $state
-        reports "$state: is no former state of paris.json"
+        reports "$state: is not a former state of paris.json"
     done
     same paris.json former
     # What is taken back can be taken back.
@@ -205,7 +205,7 @@ no_logs() {
         rm -rf paris.json.changes
         $it paris.json.changes
         ends 0 lexicat-file paris.json put --id hi --lang fr "$it"
-        reports 'its edit is made, and its log lacks it'
+        reports 'the edit was made, but is not in the log'
         lexicat-file paris.json lookup --id hi fr > output
         prints "matched fr [\"$it\"]"
     done
@@ -275,7 +275,7 @@ put_back_sites() {
     done
     same paris.json backup.json
     ends 1 lexicat-file paris.json doctor
-    grep -q '^FAULT: to go on, make a site of a new name' output || fault "$(cat output)"
+    grep -q '^FAULT: to go on, make a site with a new name' output || fault "$(cat output)"
     # Nor is a site of that name made anew.
     mv paris.json away
     ends 3 lexicat-file paris.json new --site paris

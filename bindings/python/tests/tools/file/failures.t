@@ -96,7 +96,7 @@ failing_calls() {
     same paris.json before
     # The edit is made where its log cannot be written.
     FAIL=os.pread:EIO ends 0 lexicat-file paris.json put --id hi --lang en Bye
-    reports 'its edit is made, and its log lacks it'
+    reports 'the edit was made, but is not in the log'
     lexicat-file paris.json lookup --id hi en > output
     prints 'matched en ["Bye"]'
     tidy

@@ -33,7 +33,7 @@ no_locks() {
         'ln -s nowhere paris.json.lock'; do
         $make
         ends 4 timeout "$patience" lexicat-file paris.json $put
-        reports 'paris.json: its lock is no plain file: '
+        reports 'paris.json: its lock is not a plain file: '
         rm -r paris.json.lock
     done
     [ "$(stat -c %a elsewhere)" = 600 ] || fault "a link was followed"
@@ -202,7 +202,7 @@ anothers_lock() {
     site
     holds_lock
     ends 6 lexicat-file --wait 1 paris.json $put
-    reports 'in use by another after 1 seconds'
+    reports 'still in use by another program after 1 seconds'
     ends 0 lexicat-file paris.json status
     MARK=fcntl.flock lexicat-file "--wait=$patience" paris.json $put 2> errors &
     waits_for [ -e fcntl.flock.began ]

@@ -71,7 +71,7 @@ misfits() {
     out de.po 7
     reports '"alternatives": its label in de has 2 texts, and its source 1' \
         '"bell": a text of it in de has the character U+0007, which PO files do not carry' \
-        '"empty": its label in en has an empty text, which is no msgid' \
+        '"empty": its label in en has an empty text, which cannot be a msgid' \
         '"feed": its texts do not all begin, or do not all end, with a line feed' \
         '"forms": its label in de has 1 text, and the plural rule 2 forms' \
         '"lines": its label in en has 3 texts, and PO files have a msgid and a msgid_plural' \

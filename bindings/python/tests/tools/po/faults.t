@@ -21,7 +21,7 @@ cuts() {
     sed '/^msgctxt "menu"/,$d' sent.po > cut.po
     ends 7 lexicat-po in --lang de --source en --sent sent.po site.json cut.po
     reports '1 of 4 entries that were sent did not come back' \
-        '"files": is the last one of a file that lacks entries, so it may be cut'
+        '"files": is the last entry of a file that lacks entries, so it may be cut'
     # What is no whole entry, and no rule.
     sed '/^msgstr "Wollen/d' sent.po > none.po
     ends 3 lexicat-po in --lang de --source en site.json none.po
@@ -29,7 +29,7 @@ cuts() {
     reports "none.po: the entry at line $line is not whole"
     sed 's/plural=(n != 1)/plural=n%0/' sent.po > zero.po
     ends 3 lexicat-po in --lang de --source en site.json zero.po
-    reports 'zero.po: its Plural-Forms are no plural rule'
+    reports 'zero.po: its Plural-Forms are not a plural rule'
     sed 's/plural=(n != 1)/plural=n%3/' sent.po > three.po
     ends 3 lexicat-po in --lang de --source en site.json three.po
     ends 2 lexicat-po out --lang de --source en --plural-forms 'nplurals=2; plural=n%0;' site.json
@@ -42,7 +42,7 @@ cuts() {
     put 5 empty en ''
     { cat sent.po; printf 'msgctxt "empty"\nmsgid ""\nmsgstr "x"\n'; } > empty.po
     ends 7 lexicat-po in --lang de --source en site.json empty.po
-    reports '"empty": its label in en has an empty text, which is no msgid'
+    reports '"empty": its label in en has an empty text, which cannot be a msgid'
     lexicat-file site.json delete --id empty --lang en
     # Through a pipe, in another encoding, with lines of another system, with a mark of its bytes,
     # and written by hand.

@@ -24,8 +24,8 @@ rounds() {
     sed -e 's/"Hallo"/"Servus"/; s/"Dateien"/"Akten"/; s/"Behalten"/""/' \
         -e '/^msgid "Goodbye"/{n;s/""/"Tschüss"/}' sent.po | msgcat --sort-output - > back.po
     passed_on back.po sent.po 7
-    wanted='"kept": it was emptied, which is no deletion: its label stays'
-    reports "$wanted (lexicat delete takes it away)"
+    wanted='"kept": it was emptied, which does not delete it: its label stays'
+    reports "$wanted (lexicat delete removes it)"
     changed_keys '["bye","de",["Tschüss"]]' '["files","de",["Datei","Akten"]]' \
         '["hi","de",["Servus"]]'
     passed_on back.po sent.po 7
@@ -38,7 +38,7 @@ rounds() {
     msgattrib --clear-fuzzy sent.po > confirmed.po
     passed_on confirmed.po sent.po
     cmp -s site.json was.json || fault "a confirmation changed the site by update"
-    wanted='1 older than the source and confirmed without a change'
+    wanted='1 label older than the source and confirmed without a change'
     reports "$wanted: lexicat-po confirmed prints them"
     ends 0 lexicat-po confirmed --lang de --source en site.json confirmed.po
     prints '{"stale":{"de":"Alt"}}'
@@ -60,8 +60,8 @@ rounds() {
     } > back.po
     put 102 bye en Bye
     passed_on back.po sent.po 7
-    reports '"none": has no msgctxt in back.po' '"kept": is twice in back.po' \
-        '"bye": its label in en is another one now: ["Goodbye"] was translated' \
+    reports '"none": has no msgctxt in back.po' '"kept": is there twice in back.po' \
+        '"bye": its label in en has changed since: ["Goodbye"] was translated' \
         '"files": only some of its plural forms are translated' \
         '"nowhere": the site has no label of it in en'
     changed_keys '["hi","de",["Grüezi"]]'
@@ -95,7 +95,7 @@ late() {
     sed 's/"Wiedersehen"/"Tschüss"/' monday.po > friday.po
     ends 0 lexicat-po in --lang de --source en site.json friday.po
     prints '{"bye":{"de":"Auf Wiedersehen"}}' '{"bye":{"de":"Tschüss"}}'
-    reports '"bye": was "Auf Wiedersehen" since it was sent, which this file overrides'
+    reports '"bye": became "Auf Wiedersehen" after it was sent, and this file overrides that'
     msgcat --sort-output monday.po > sorted.po
     ends 0 lexicat-po in --lang de --source en site.json sorted.po
     prints '{}' '{}'
@@ -173,7 +173,7 @@ beside() {
     FROM=site.json ends 7 lexicat-po out --lang de --source en
     reports \
         '"bye": a text of it in x-note-de has the character U+0007, which PO files do not carry' \
-        '"hi": its label in x-flags has a text that is no flag'
+        '"hi": its label in x-flags has a text that is not a flag'
 
 }
 

@@ -160,7 +160,7 @@ export default {
   takePo: 'Take in PO',
   poTaken: 'The PO file was taken in.',
   anewTitle: 'Begin anew under another name',
-  anewHint: 'After this browser had a wrong clock, or where another one has its name. All labels go along.',
+  anewHint: 'After this browser had a wrong clock, or if another one has its name. All labels go along.',
   beginAnew: 'Begin anew',
   sameName: 'It has to be another name.',
   otherTab: 'This page is open in another tab. Close that one, and this one goes on.',

@@ -10,17 +10,17 @@ Usage: lexicat-convert FORMAT in [--lang LANG] [FILE..] > MAPS
 
 Formats: i18next, json (names as they are, and no plurals), arb, android
 (strings.xml), strings, stringsdict and xcstrings (iOS), properties (Java), csv,
-xliff (1.2), xliff2 (2.0) and fluent. PO files are read and written by lexicat-po.
+xliff (1.2), xliff2 (2.0) and fluent. For PO files use lexicat-po.
 
-What does not fit is named on standard error with its id, all else is done, and
-the status is 7.
+Messages that cannot be used are listed on standard error with their ids; all
+else is done, and the status is 7.
 
   --lang LANG        the language of the file; for xliff that of the
-                     translations. If a file states it, it need not be given;
-                     csv and xcstrings out have all languages without it
+                     translations. Not needed if the file states it. Without it
+                     csv and xcstrings out have all languages
   --source LANG      for xliff, csv and xcstrings: the language that is translated
   --domain NAME      what the ids begin with in the maps, before a slash
-  --plurals WORDS    the plural categories of the language, as 'one few other'
+  --plurals WORDS    the plural categories of the language: 'one few other'
   --flat             for i18next: take keys as they are, with their dots
   -h, --help         print this
   --version          print the version

@@ -48,7 +48,7 @@ def read_resource(element, note, lang, args, found):
     """Takes one resource."""
     key = element.attributes.get("name")
     if element.name not in KINDS or key is None:
-        found.misfit(key or element.name, f"the element {element.name} is no string with a name",
+        found.misfit(key or element.name, f"the element {element.name} is not a string with a name",
                      element.line)
         return
     try:
@@ -101,7 +101,7 @@ def attributes_of(labels):
     for text in labels.get(ATTRIBUTES, ()):
         name, equals, value = text.partition("=")
         if not re.fullmatch(r"[A-Za-z_][\w.-]*", name, re.ASCII) or not equals or name == "name":
-            raise Misfit(f"its label in {ATTRIBUTES} has a text that is no attribute")
+            raise Misfit(f"its label in {ATTRIBUTES} has a text that is not an attribute")
         if name in written:
             raise Misfit(f"its label in {ATTRIBUTES} has the attribute {name} twice")
         written[name] = xml_text.attribute(name, value)

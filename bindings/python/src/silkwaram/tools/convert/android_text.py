@@ -40,7 +40,7 @@ class Reader:
                 self.hard(written(chr(int(code, 16))))
             elif letter:
                 if letter not in ESCAPES:
-                    raise Misfit(f"it has \\{quoted(letter)[1:-1]}, which is no escape")
+                    raise Misfit(f"it has \\{quoted(letter)[1:-1]}, which is not an escape")
                 self.hard(written(ESCAPES[letter]))
             elif quote:
                 self.is_quoted = not self.is_quoted
@@ -106,7 +106,7 @@ def read(element):
     text = reader.whole()
     if not is_xml and fragment(text) is not None:
         if "]]>" in text:
-            raise Misfit("it reads like XML with a CDATA section, and is none")
+            raise Misfit("it looks like XML with a CDATA section, but is not")
         return f"<![CDATA[{text}]]>"
     return text
 
@@ -151,7 +151,7 @@ def write(text):
     written, has_xliff = content(text)
     again = read(xml_text.parsed(f"<r>{written}</r>".encode(), "a text"))
     if again != text and content(again)[0] != written:
-        raise Misfit("its text would be another one in a file of Android")
+        raise Misfit("its text would read otherwise in a file of Android")
     return written, has_xliff
 
 

@@ -40,7 +40,7 @@ def unescaped(text, name, line):
             return chr(int(found[1], 16))
         if found[2] not in ESCAPES:
             escape = f"\\{quoted(found[2])[1:-1]}"
-            raise Refused(f"{name}: line {line}: {escape} is no escape that is read here")
+            raise Refused(f"{name}: line {line}: {escape} is not an escape that is read here")
         return ESCAPES[found[2]]
 
     return joined_pairs(ESCAPE.sub(character, text))
@@ -88,7 +88,8 @@ class Entries:
         texts = [word[0] for word in self.words if isinstance(word, tuple)]
         signs = "".join(word if isinstance(word, str) else "t" for word in self.words)
         if signs not in ("t;", "t=t;"):
-            raise Refused(f"{self.name}: line {self.began or line} is no entry \"key\" = \"text\";")
+            raise Refused(f"{self.name}: line {self.began or line} is not an entry "
+                          "\"key\" = \"text\";")
         if self.found.label(texts[0], self.lang, [texts[-1]], self.began):
             self.found.beside(texts[0], NOTES, [joined_comment(self.note)])
         self.words, self.note, self.last = [], [], (texts[0], line)

@@ -16,7 +16,7 @@ def read_attributes(key, value, keys, found):
     try:
         attributes = plain(value)
         if not isinstance(attributes, dict):
-            raise Misfit("its attributes are no object")
+            raise Misfit("its attributes are not an object")
         if found.domain + key not in found.labels:
             raise Misfit("has attributes and no text")
         note = attributes.get("description")
@@ -29,7 +29,7 @@ def read_attributes(key, value, keys, found):
                 raise Misfit("its attributes are too long for a text")
             found.beside(key, ATTRIBUTES, [written])
     except UnicodeEncodeError:
-        found.misfit(key, "its attributes are no Unicode")
+        found.misfit(key, "its attributes are not Unicode")
     except (Misfit, RecursionError) as why:
         found.misfit(key, why)
 
@@ -46,7 +46,7 @@ def read(data, name, args, found):
         if isinstance(value, str):
             found.label(key, lang, [value])
         else:
-            found.misfit(key, "is no text")
+            found.misfit(key, "is not a text")
     keys = {key for key, _ in pairs}
     for key, value in pairs:
         if key.startswith("@@"):
@@ -68,7 +68,7 @@ def write(out, args):
             except (ValueError, RecursionError):
                 attributes = None
             if not isinstance(attributes, dict):
-                raise Misfit(f"its label in {ATTRIBUTES} is no object of JSON")
+                raise Misfit(f"its label in {ATTRIBUTES} is not an object of JSON")
         if note_of(labels):
             attributes = {"description": note_of(labels), **attributes}
         members[key] = text

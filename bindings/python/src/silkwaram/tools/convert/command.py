@@ -26,7 +26,7 @@ def categories(words):
     """Plural categories of the arguments."""
     names = tuple(words.split())
     if not names or [name for name in plurals.ORDER if name in names] != list(names):
-        raise argparse.ArgumentTypeError(f"{words!r} are no plural categories in their order")
+        raise argparse.ArgumentTypeError(f"{words!r} are not plural categories in their order")
     return names
 
 
@@ -43,9 +43,9 @@ def arguments(words):
     parser.add_argument("files", nargs="*", metavar="FILE")
     args = parser.parse_intermixed_args(words)
     if args.lang and args.lang == args.source:
-        parser.error("--lang and --source are one language")
+        parser.error("--lang and --source are the same language")
     if args.flat and args.format != "i18next":
-        parser.error("--flat is of i18next alone")
+        parser.error("--flat is only for i18next")
     args.flat = args.flat or args.format == "json"
     if args.source and args.format not in WITH_SOURCE:
         parser.error(f"{args.format} has no --source")
@@ -53,9 +53,9 @@ def arguments(words):
         if len(args.files) > 1:
             parser.error("out takes the language maps of one file")
         if args.format not in OF_ALL and not args.lang:
-            parser.error("out wants --lang")
+            parser.error("out needs --lang")
         if args.format in OF_SOURCE and not args.source:
-            parser.error(f"out wants --source for {args.format}")
+            parser.error(f"out needs --source for {args.format}")
     return args
 
 

@@ -23,7 +23,8 @@ def decoded(data, name):
     try:
         return data.decode(encoding)
     except UnicodeDecodeError as fault:
-        raise Refused(f"{name}: byte {fault.start} is not of {encoding[:6].upper()}") from None
+        shown = encoding[:6].rstrip("-").upper()
+        raise Refused(f"{name}: byte {fault.start} is not {shown}") from None
 
 
 def joined_pairs(text):
@@ -53,7 +54,7 @@ def stated_language(stated, wanted, name, option="--lang"):
         return wanted
     lang = stated.replace("_", "-").lower()
     if not TAG.fullmatch(lang):
-        raise Refused(f"{name}: its language is {quoted(stated)}, which is no language tag")
+        raise Refused(f"{name}: its language is {quoted(stated)}, which is not a language tag")
     if wanted and lang != wanted:
         raise Refused(f"{name}: its language is {quoted(stated)}, not {wanted}")
     return lang
@@ -64,9 +65,9 @@ def stated_language(stated, wanted, name, option="--lang"):
 def check_id(message):
     """Refuses what is no id of a message."""
     if not 0 < len(message.encode()) <= ID_LIMIT:
-        raise Misfit(f"it is no id, which has 1 to {ID_LIMIT} bytes")
+        raise Misfit(f"it is not an id, which has 1 to {ID_LIMIT} bytes")
     if CONTROLS.search(message) or message.startswith("@"):
-        raise Misfit("it is no id, which has no control character and no @ first")
+        raise Misfit("it is not an id, which has no control character and no @ first")
 
 
 def can_be_label(texts):
@@ -123,7 +124,7 @@ class Found:
                 check_label((text,))
             check_label(texts)
         except UnicodeEncodeError:
-            self.misfit(key, "a text is no Unicode: it has half of a surrogate pair", line)
+            self.misfit(key, "a text is not Unicode: it has half of a surrogate pair", line)
             return False
         except Misfit as why:
             self.misfit(key, why, line)
@@ -152,7 +153,7 @@ class Found:
             check_label(texts)
             labels[lang] = texts
         except (Misfit, UnicodeEncodeError):
-            self.leave(f"{lang} that is no label")
+            self.leave(f"{lang} that is not a label")
 
 
 class Maps:
@@ -199,7 +200,7 @@ def read_maps(name):
     except (ValueError, RecursionError):
         raise Refused(f"{name}: not JSON") from None
     if isinstance(maps, dict) and isinstance(maps.get("kind"), str):
-        raise Refused(f"{name}: is a {quoted(maps['kind'])}, and language maps are wanted, "
+        raise Refused(f"{name}: is a {quoted(maps['kind'])}, not language maps "
                       "as lexicat export prints them")
     if not isinstance(maps, dict):
         raise Refused(f"{name}: not language maps")
@@ -211,9 +212,10 @@ def read_maps(name):
             check_id(message)
             texts = {lang.lower(): texts_of_value(value) for lang, value in labels.items()}
         except (AttributeError, ValueError, Misfit):
-            raise Refused(f"{name}: {quoted(message)} is no language map") from None
+            raise Refused(f"{name}: {quoted(message)} is not a language map") from None
         if len(texts) != len(labels) or not all(map(TAG.fullmatch, labels)):
-            raise Refused(f"{name}: {quoted(message)} has a language that is no tag, or twice")
+            raise Refused(f"{name}: {quoted(message)} has a language that is not a tag, "
+                          "or is there twice")
         messages[message] = {lang: it for lang, it in texts.items() if it}
     return messages
 

@@ -35,7 +35,7 @@ def rows_of(text, name):
         try:
             row = next(reader, None)
         except csv.Error as fault:
-            raise Refused(f"{name}: line {line} is no whole row: {fault}") from None
+            raise Refused(f"{name}: line {line} is not a whole row: {fault}") from None
         if row is None:
             return
         if row:
@@ -47,7 +47,7 @@ def languages_of(header, name):
     langs = [word.lower() for word in header[1:] if word != FORM]
     for word in langs:
         if not TAG.fullmatch(word):
-            raise Refused(f"{name}: a column is named {word!r}, which is no language tag")
+            raise Refused(f"{name}: a column is named {word!r}, which is not a language tag")
     if len(set(langs)) != len(langs) or header.count(FORM) > 1 or not langs:
         raise Refused(f"{name}: two columns have one name, or there is no language")
     return langs
@@ -81,7 +81,8 @@ def read(data, name, args, found):
         line = its_rows[0][0]
         places = [row[form] if form is not None else "" for _, row in its_rows]
         if len(its_rows) > 1 and places != [str(place + 1) for place in range(len(places))]:
-            found.misfit(key, "has several rows, which the column form does not count from 1", line)
+            words = "has several rows, which the column form does not number from 1"
+            found.misfit(key, words, line)
             continue
         for lang in langs:
             try:
@@ -108,7 +109,8 @@ def write(out, args):
         texts = [labels.get(lang, ()) for lang in langs]
         for lang, its in zip(langs, texts):
             if "" in its:
-                raise Misfit(f"its label in {lang} has an empty text, and an empty cell is none")
+                raise Misfit(f"its label in {lang} has an empty text, "
+                             "but an empty cell means no label")
             if any("\0" in text for text in its):
                 raise Misfit(f"a text of it in {lang} has the character U+0000")
         count = max(map(len, texts))

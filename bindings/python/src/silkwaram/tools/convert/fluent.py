@@ -106,11 +106,11 @@ def write(out, args):
     def entry_of(key, labels):
         parts = KEY.fullmatch(key)
         if not parts:
-            raise Misfit("it is no name of Fluent, with at most one attribute after a dot")
+            raise Misfit("it is not a name of Fluent, with at most one attribute after a dot")
         try:
             pattern = pattern_of(the_text(labels[args.lang]))
         except Fault as why:
-            raise Misfit(f"its text is no pattern of Fluent: {why}") from None
+            raise Misfit(f"its text is not a pattern of Fluent: {why}") from None
         name, attribute = parts.groups()
         if attribute and name.startswith("-") and name not in messages:
             raise Misfit(f"it is an attribute of the term {name}, which has no text")

@@ -44,7 +44,7 @@ class Reader:
     def expect(self, sign):
         """Takes a sign that has to be there."""
         if not self.sign(sign):
-            raise self.fault(f"{sign} is wanted")
+            raise self.fault(f"{sign} is expected")
 
     def blank(self):
         """Takes blanks and ends of lines."""
@@ -60,7 +60,7 @@ class Reader:
         """Takes a name."""
         name = self.take(IDENTIFIER)
         if name is None:
-            raise self.fault("a name is wanted")
+            raise self.fault("a name is expected")
         return name
 
     def goes_on(self):
@@ -92,7 +92,7 @@ class Reader:
                 self.place += 1
         written = self.text[begin:self.place]
         if not written.strip(" \n"):
-            raise self.fault("a text is wanted")
+            raise self.fault("a text is expected")
         return written
 
     def placeable(self):
@@ -145,7 +145,7 @@ class Reader:
             named = re.compile(r"[a-zA-Z][a-zA-Z0-9_-]*[ \n]*:[ \n]*")
             if self.take(named):
                 if not self.take(STRING) and not self.take(NUMBER):
-                    raise self.fault("a named argument is no text and no number")
+                    raise self.fault("a named argument is neither a text nor a number")
             else:
                 self.expression()
             self.blank()
@@ -179,7 +179,7 @@ class Reader:
             self.pattern()
             defaults += is_default
         if defaults != 1:
-            raise self.fault("a selection has not one default variant")
+            raise self.fault("a selection does not have exactly one default variant")
 
 
 def dedented(written):
@@ -194,7 +194,7 @@ def dedented(written):
 def pattern_of(text):
     """A text as a pattern after the sign =, which reads as that text; raises Fault."""
     if "\r" in text:
-        raise Fault("a carriage return is no end of a line there", 0)
+        raise Fault("a carriage return does not end a line there", 0)
     lines = text.split("\n")
     indented = "".join("\n" + ("    " + line if line else "") for line in lines)
     inline = " " + lines[0] + "".join(

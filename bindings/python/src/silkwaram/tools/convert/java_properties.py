@@ -18,7 +18,7 @@ def text_of(data, name):
     """The text of a file, in one of both encodings."""
     data = data[3:] if data.startswith(b"\xef\xbb\xbf") else data
     if data[:2] in (b"\xff\xfe", b"\xfe\xff") or b"\0" in data:
-        raise Refused(f"{name}: is in UTF-16, or no text")
+        raise Refused(f"{name}: is in UTF-16, or is not a text")
     try:
         return data.decode("utf-8")
     except UnicodeDecodeError:

@@ -22,7 +22,7 @@ def members(element):
     """The members of a dictionary: of each the key, the element of its value, and the line."""
     found, inside = [], element.elements()
     if element.name != "dict" or len(inside) % 2 or element.text().strip():
-        raise Misfit("it is no dictionary")
+        raise Misfit("it is not a dictionary")
     for key, value in zip(inside[::2], inside[1::2]):
         if key.name != "key":
             raise Misfit(f"it has the element {key.name} in place of a key")
@@ -102,7 +102,7 @@ def read(data, name, args, found):
         raise Refused(f"{name}: is a binary property list: plutil -convert xml1 makes it XML")
     root = xml_text.parsed(data, name, doctype=True)
     if root.name != "plist" or len(root.elements()) != 1:
-        raise Refused(f"{name}: is no property list")
+        raise Refused(f"{name}: is not a property list")
     try:
         entries = members(root.elements()[0])
     except Misfit as why:

@@ -80,7 +80,7 @@ def read(data, name, args, found):
             member(catalog, "sourceLanguage", str), args.source, name, "--source"
         )
     except Misfit as why:
-        raise Refused(f"{name}: is no string catalog: {why}") from None
+        raise Refused(f"{name}: is not a string catalog: {why}") from None
     for key, value in entries.items():
         if not key:
             found.leave("entries without a key")
@@ -88,7 +88,7 @@ def read(data, name, args, found):
         try:
             read_entry(key, value, source, args, found)
         except (AttributeError, TypeError):
-            found.misfit(key, "it is no entry as catalogs have it")
+            found.misfit(key, "it is not an entry as catalogs have it")
 
 
 def unit(text):

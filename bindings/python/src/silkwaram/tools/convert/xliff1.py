@@ -22,7 +22,7 @@ def unit_of(element, found):
     """The unit of an element."""
     sources, targets = element.elements("source"), element.elements("target")
     if len(sources) != 1 or len(targets) > 1:
-        raise Misfit("it has not one source and one target")
+        raise Misfit("it does not have one source and at most one target")
     target = None
     if targets and targets[0].attributes.get("state", "").startswith(UNFINISHED):
         found.leave("targets that are new or need work")
@@ -48,8 +48,8 @@ def read(data, name, args, found):
     """Takes the source and the translation of a file."""
     root = xml_text.parsed(data, name)
     if root.name != "xliff" or root.attributes.get("version") not in ("1.0", "1.1", "1.2"):
-        raise Refused(f"{name}: is no XLIFF 1.2"
-                      + (": take the format xliff2" if root.name == "xliff" else ""))
+        raise Refused(f"{name}: is not XLIFF 1.2"
+                      + (": use the format xliff2" if root.name == "xliff" else ""))
     for file in root.elements():
         if file.name != "file":
             found.leave(f"elements {file.name}")

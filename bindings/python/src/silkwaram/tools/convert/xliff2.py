@@ -34,7 +34,7 @@ def unit_of(element, found):
             continue
         sources, targets = part.elements("source"), part.elements("target")
         if len(sources) != 1 or len(targets) > 1:
-            raise Misfit("a segment of it has not one source and one target")
+            raise Misfit("a segment of it does not have one source and at most one target")
         all_sources += sources
         if targets and part.attributes.get("state") == "initial":
             found.leave("targets of the state initial")
@@ -65,8 +65,8 @@ def read(data, name, args, found):
     """Takes the source and the translation of a file."""
     root = xml_text.parsed(data, name)
     if root.name != "xliff" or root.attributes.get("version") not in ("2.0", "2.1"):
-        raise Refused(f"{name}: is no XLIFF 2.0"
-                      + (": take the format xliff" if root.name == "xliff" else ""))
+        raise Refused(f"{name}: is not XLIFF 2.0"
+                      + (": use the format xliff" if root.name == "xliff" else ""))
     langs = languages(root.attributes.get("srcLang", ""), root.attributes.get("trgLang", ""), name,
                       args)
     for file in root.elements():

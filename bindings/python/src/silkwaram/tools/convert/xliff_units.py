@@ -150,7 +150,7 @@ def units_of(labels, args):
                           place >= len(sources), place < count))
     for it in units:
         if it.target == "" and it.source:
-            raise Misfit(f"its label in {args.lang} has an empty text, which is no translation")
+            raise Misfit(f"its label in {args.lang} has an empty text, which is not a translation")
         for text in (it.source, it.target or ""):
             xml_text.checked(text)
     xml_text.checked(note_of(labels))

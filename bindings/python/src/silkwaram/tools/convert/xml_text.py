@@ -94,7 +94,7 @@ class _Builder:
 
     def doctype(self, *words):
         if not self.takes_doctype or words[3]:
-            raise Unwanted("it has a document type, which is not read: take it away")
+            raise Unwanted("it has a document type, which is not read: remove it")
 
     def entity(self, *_):
         raise Unwanted("it has entities of its own, which are not read")
@@ -119,7 +119,8 @@ def checked(text):
     """A text that XML can have."""
     found = NO_XML.search(text)
     if found:
-        raise Misfit(f"a text of it has the character U+{ord(found[0]):04X}, which XML has not")
+        raise Misfit(f"a text of it has the character U+{ord(found[0]):04X}, "
+                     "which XML does not have")
     return text
 
 
@@ -138,7 +139,8 @@ def attribute(name, text):
 def comment(text, indent):
     """A comment on lines of its own. (Two hyphens are none in XML.)"""
     if "--" in text or text.endswith("-"):
-        raise Misfit("its note has two hyphens, or one at its end, which no comment of XML has")
+        raise Misfit("its note has two hyphens, or one at its end, "
+                     "which a comment of XML cannot have")
     return f"{indent}<!-- {checked(text)} -->\n"
 
 
