@@ -12,8 +12,8 @@ SOURCES := crates.txt $(shell command -v find > /dev/null && find crates \
 	-o -type f \( -name '*.rt' -o -name '*.antt' \) -print)
 
 .PHONY: all help needs try try-session library browser demo test test-mutants plant \
-	bench bench-documents bench-front install install-command install-library uninstall dist proofs \
-	clean
+	bench bench-documents bench-front bench-beside install install-command install-library uninstall \
+	dist proofs clean
 
 .DEFAULT_GOAL := all
 
@@ -87,14 +87,16 @@ test-mutants: build/lexicat
 plant: build/lexicat
 	RT='$(RT)' tools/mutants/plant
 
-#: make bench         instructions, time and memory beside plain Rust; bench-documents and bench-front
-#:                    are parts of it, of large documents and of the library
+#: make bench         instructions, time and memory beside plain Rust, jq, Python, gettext and
+#:                    databases; bench-documents and bench-beside are parts of it, and bench-front
+#:                    measures calls of the library
 # WALL=0 leaves time out; WRITE=1 keeps the figures.
 bench: build/lexicat
 	RT='$(RT)' bench/proved/build
 	CARGO_TARGET_DIR=build/plain cargo build --release --offline --quiet --manifest-path bench/plain/Cargo.toml
 	bench/run
 	$(MAKE) bench-documents
+	$(MAKE) bench-beside
 
 # Large documents, and random ones.
 bench-documents: build/lexicat
@@ -106,6 +108,10 @@ bench-documents: build/lexicat
 # A pick and a lookup by the library, from C, Python and PHP, beside ICU, PHP's intl and WebOb.
 bench-front: build/lexicat library
 	bench/front/run
+
+# The changes of a site, and an open site, beside other programs: what the plots of README show.
+bench-beside: build/lexicat library
+	bench/beside/run
 
 BIN = $(DESTDIR)$(PREFIX)/bin
 SHARE = $(DESTDIR)$(PREFIX)/share

@@ -15,7 +15,7 @@ _lexicat() {
     case $before in
         '<' | '>' | '>>' | '<>' | '>|' | '2>' | '2>>' | '&>' | '&>>') compopt -o default 2> /dev/null; return ;;
         --scheme) COMPREPLY=($(compgen -W 'basic extended' -- "$word")); return ;;
-        --default | --site | --now | --id | --lang | --source | --not-after) return ;;
+        --default | --site | --now | --id | --lang | --source | --offer | --not-after) return ;;
     esac
     for ((i = 1; i < COMP_CWORD; i++)); do
         case ${COMP_WORDS[i]} in
@@ -33,9 +33,9 @@ _lexicat() {
         import | update) options='--now --help -h' ;;
         missing) options='--lang --help -h' ;;
         outdated) options='--lang --source --help -h' ;;
-        filter) options='--id --scheme --lenient --help -h' ;;
-        lookup) options='--id --scheme --lenient --widen --default --help -h' ;;
-        bundle) options='--scheme --lenient --widen --default --help -h' ;;
+        filter) options='--id --offer --scheme --lenient --help -h' ;;
+        lookup) options='--id --offer --scheme --lenient --widen --default --help -h' ;;
+        bundle) options='--offer --scheme --lenient --widen --default --help -h' ;;
         summary) options='--labels --help -h' ;;
         take | sync | merge) options='--not-after --check-own --help -h' ;;
         explain) options='1 2 3 4 5 6 7 8 9 10 11 12 13 14 15 16 17 18 19 20 21 22 23 24 25 26 27 28 29 30 --help -h' ;;

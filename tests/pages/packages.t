@@ -49,7 +49,7 @@ finds_none() { # a command that lists faults
 reserved='(@|://)[A-Za-z0-9.-]*\.(example|invalid|test|localhost)\b|noreply'
 reserved_addresses() {
     grep -nErI "$reserved" packaging SECURITY.md README.md bindings/*/package.json \
-        bindings/python/pyproject.toml
+        bindings/php/composer.json bindings/python/pyproject.toml
 }
 
 links_of_the_wheel() { grep -noE '\]\([^)#:"][^):]*\)' bindings/python/README.md; }
@@ -67,6 +67,10 @@ check 'the version of the sources' has_the_version crates/front_core/src/version
     's/^pub const VERSION: &str = "(.*)";$/\1/p'
 check 'the version of the package for Python' has_the_version \
     bindings/python/src/silkwaram/__init__.py 's/^__version__ = "(.*)"$/\1/p'
+check 'the version of the package for PHP' has_the_version bindings/php/composer.json \
+    's/^ *"version": "(.*)",$/\1/p'
+check 'the version that the package for PHP wants' has_the_version bindings/php/src/Library.php \
+    "s/.* const VERSION = '(.*)';$/\1/p"
 check 'no reserved address' finds_none reserved_addresses
 check 'no link of the page of the wheel to what the wheel has not' finds_none links_of_the_wheel
 end
