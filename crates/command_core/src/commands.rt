@@ -232,7 +232,7 @@ fn missing<'a>(alloc: Global) -> Result<Command<'a>, AllocError>
         alloc,
         "missing",
         "lexicat missing --lang <LANG> < SITE",
-        "Prints the messages that have labels but none in this very language, as language maps",
+        "Prints the messages that have labels, but none in LANG itself, as language maps",
         "Reads a site document. A deleted label is missing too, and fr-ca does not count as fr. A \
             translator adds the members that are missing; update puts them into the site.\n\
             Example: lexicat missing --lang de < three.json",

@@ -14,8 +14,9 @@ pub struct Told {
     pub offset: usize,
     /// The row of a document's refusal, from 0.
     pub row: usize,
-    /// What the call counts. Of refusal 11 the place of the text in its label, from 0; of 12 how
-    /// many texts the label has; of 13 the place of the cell in the receiving site, from 0.
+    /// What the call counts. Of a refusal, if its number is 11: the index of the text in its label;
+    /// if 12: how many texts the label has; if 13: the index of the cell in the receiving site.
+    /// Indexes count from 0.
     pub count: usize,
     /// The number of the refusal, or 0.
     pub number: u32,

@@ -193,8 +193,8 @@ texts_13 =
           codes "cell PLACE of the receiving site is the first whose timestamp another edit "
           ++ codes "has too: two sites have one name, or a site was put back to an older copy";
       remedy =
-          codes "find those sites; a newer edit of the message in that language ends the "
-          ++ codes "conflict; let a site that was put back send a new summary";
+          codes "edit the message in that language again, which ends the conflict; if two "
+          ++ codes "sites have one name, rename one; if a site was put back, it must send a new summary";
     }
 
 -- what refusal 14 means, what causes it, and what to do

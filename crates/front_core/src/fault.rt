@@ -61,8 +61,9 @@ impl FrontFault {
         }
     }
 
-    /// What the text of the refusal counts: of 11 the place of the text in its label, from 0; of 12
-    /// how many texts the label has; of 13 the place of the cell in the receiving site, from 0.
+    /// What the text of the refusal counts. If its number is 11: the index of the text in its
+    /// label; if 12: how many texts the label has; if 13: the index of the cell in the receiving
+    /// site. Indexes count from 0.
     pub fn count(&self) -> Option<usize>
         ensures { result ≡ count_of self.now }
     {

@@ -160,8 +160,8 @@ fn of_exchange(number: u8) -> Refusal
             meaning: "two different edits of a message in a language have two timestamps",
             cause: "cell PLACE of the receiving site is the first whose timestamp another edit has \
                 too: two sites have one name, or a site was put back to an older copy",
-            remedy: "find those sites; a newer edit of the message in that language ends the \
-                conflict; let a site that was put back send a new summary",
+            remedy: "edit the message in that language again, which ends the conflict; if two sites \
+                have one name, rename one; if a site was put back, it must send a new summary",
         },
         14 => Refusal {
             text: "clock is spent",

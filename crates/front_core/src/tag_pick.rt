@@ -23,8 +23,8 @@ pub enum Picked<'a> {
 }
 
 /// The tag that lookup (RFC 4647, section 3.4) finds for a field among tags, one on a line, or
-/// widened lookup if the field says so; else the default, where it is among the tags and the field
-/// does not refuse it.
+/// widened lookup if the field says so; else the default, if it is among the tags and the field
+/// does not exclude it.
 ///
 /// A line feed ends each line, and may be missing after the last: no bytes are no tags. Tags are
 /// equal without case, and of equal ones the first is answered. `@none` is a tag that is never

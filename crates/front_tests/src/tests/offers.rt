@@ -1,9 +1,11 @@
 //! What readers are offered of a site.
 
+use crate::tests::refusals::assert_refused;
 use front_core::{
     Answer, Field, Filter, FrontFault, LabelText, Lookup, Offering, OpenSite, Outcome, Question,
     Reader, SiteIn,
 };
+use lang_core::LangFault;
 use nego_core::{Malformed, NegoFault, Offer, PriorityList, Scheme, Widening};
 use std::alloc::Global;
 use std::test::Fail;
@@ -140,11 +142,12 @@ fn no_text_of_a_label_that_is_not_offered(rt: HostRuntime) -> Result<(), Fail> {
 #[test]
 fn an_offer_that_is_malformed(rt: HostRuntime) {
     let alloc = rt.alloc();
-    let fault = FrontFault::Field(NegoFault::FieldMalformed { offset: 4 });
     // (it comes before the field, and after the default)
     let malformed = Offering::Field(b"en, _");
+    let fault = FrontFault::Field(NegoFault::FieldMalformed { offset: 4 });
     let lookup = Lookup::read(alloc, b"m", malformed, strict("_"), None);
-    assert!(rt; matches!(lookup, Err(refused) if refused == fault));
+    assert_refused(&rt, lookup, fault);
+    let language = FrontFault::Language(LangFault::TagNotWellFormed);
     let reader = Reader::read(alloc, malformed, strict("_"), Some(b"e"));
-    assert!(rt; matches!(reader, Err(refused) if refused != fault));
+    assert_refused(&rt, reader, language);
 }

@@ -34,7 +34,11 @@ const FIELD: FrontFault = FrontFault::Field(MALFORMED);
 
 const ID: FrontFault = FrontFault::Cell(CellFault::IdRefused);
 
-fn assert_refused<T: Drop>(rt: &impl Abort, answer: Result<T, FrontFault>, fault: FrontFault) {
+pub(crate) fn assert_refused<T: Drop>(
+    rt: &impl Abort,
+    answer: Result<T, FrontFault>,
+    fault: FrontFault,
+) {
     assert_eq!(rt; answer.err(), Some(fault));
 }
 
