@@ -71,10 +71,10 @@ extern "C" {
 /* What a call reports beside its status. What a call does not name below is 0. */
 typedef struct sw_told {
   size_t len;      /* bytes of the answer, also where they did not fit */
-  size_t offset;   /* of the refusals 3, 9 and 18: the place in the text that is refused, in bytes from 0 */
+  size_t offset;   /* if the number is 3, 9 or 18: where the fault is in the text, in bytes from 0 */
   size_t row;      /* of a refusal in a row of a document: the row, from 0 */
-  size_t count;    /* as the calls say; of refusal 11 the place of the text in its label, from 0, of 12 how many texts
-                      the label has, of 13 the place of the cell in the receiving site, from 0 */
+  size_t count;    /* as the calls say; if the number is 11 the index of the text in its label, if it is 12 how many
+                      texts the label has, if it is 13 the index of the cell in the receiving site (indexes from 0) */
   uint32_t number; /* the number of the refusal (docs/REFUSALS.md), or 0 */
   uint32_t given;  /* what a refusal has: the sum of some of these */
 } sw_told;
@@ -95,8 +95,8 @@ uint32_t sw_version(void);
  * any case, or `@none`, one on a line, with or without an LF (a byte 10) after the last; no bytes at all are no tags.
  * `dflt` is the language for readers who get no other, or nothing. The answer is the tag as it is in `tags`, at most
  * 255 bytes; of tags that are equal without case, the first.
- *   SW_FOUND     lookup finds a tag; or it finds none, and the default is among the tags and is not refused by the
- *                field: then told->count is 1
+ *   SW_FOUND     lookup finds a tag; or it finds none, and the default is among the tags and the field does not
+ *                exclude it: then told->count is 1
  *   SW_NOTHING   neither
  *   SW_REFUSED   first the default (1 to 4), then the field (8, 9), then the tags in their order (1 to 4; a line
  *                without bytes is 1); told->offset counts from the first byte of the default, the field or that tag
@@ -165,9 +165,10 @@ int32_t sw_site_filter(sw_site *site, const uint8_t *offer, size_t offer_len, ui
  * The answers are the same where another program wrote the document again, with its members and rows in their order and
  * without blanks: the strings of the rows may have any escapes that JSON has, as "\u00df" and "\/". Where many ids have
  * such ones, more rows are read.
- * A question that is refused over a site (its flags, id, default or field) is refused in the same way over any bytes.
- * Of other bytes nothing is promised but an answer: a label may be missing, without a refusal. Use sw_site_open for a
- * document in another form, and for what strangers send. No call reads outside of `text`, whatever its bytes are.
+ * A question that is refused over a site (its flags, id, default, offer or field) is refused in the same way over any
+ * bytes. Use these calls only for such a document: given other bytes they return, but a label may be missing without a
+ * refusal. For a document in another form, and for what strangers send, use sw_site_open, which checks it. No call
+ * reads outside of `text`, whatever its bytes are.
  * Replace a mapped file by a new one that is renamed to it, as lexicat-file does, and never write into it: if it is cut
  * while it is mapped, the system ends the process (SIGBUS). */
 int32_t sw_text_lookup(const uint8_t *text, size_t text_len, const uint8_t *offer, size_t offer_len,
@@ -193,12 +194,12 @@ int32_t sw_site_bundle(sw_site *site, const uint8_t *offer, size_t offer_len, ui
 
 /* ---- Sites that are made and edited.
  *
- * An edit changes the site in place where its handle is the only one of it. Where the site is shared, the other handles
- * keep what they had: no edit is seen through another handle. So a server publishes a new state by sharing the edited
- * handle anew. An edit of a shared site, and an import or an update of any, since it makes all its edits or none, is
- * made in an equal site. The first such edit makes a copy, in the time and memory of the site, and the handle keeps the
- * state before beside its own. The next one is made in the state before, in the time of what was changed since; but it
- * makes a copy again if another handle still has that state, or if more than some thousand labels were changed.
+ * No edit is seen through another handle: a server publishes a new state by sharing the edited handle anew, and frees
+ * the old handles. An edit changes the site in place if its handle is the only one of the site. The first edit of a
+ * shared site copies it, in the time and memory of the site. After that the handle keeps two versions and alternates
+ * between them, so that an edit costs what was changed since. It copies again if another handle still has the older
+ * version, or if more than some thousand labels were changed. An import or an update works in this way whoever has the
+ * site, since it makes all its edits or none.
  * `now` is the time of an edit, by custom in milliseconds since 1970. The stamp of an edit is later than all that the
  * site has, so a clock that is set back does no harm; a time far ahead does (docs/RECIPES.md).
  * A refused call leaves the site as it was, but for 26 of sw_site_take and sw_site_merge: after it each label is the one
@@ -252,8 +253,8 @@ int32_t sw_site_take(sw_site *site, uint32_t flags, const uint8_t *delta, size_t
  *                (14) */
 int32_t sw_site_import(sw_site *site, uint64_t now, const uint8_t *maps, size_t maps_len, sw_told *told);
 
-/* Makes the changes from old language maps to new ones, all or none: as the command `update`. What the new maps leave
- * out is deleted, what both have alike stays.
+/* Makes the changes from old language maps to new ones, all or none: as the command `update`. A label that only
+ * the old maps have is deleted. A label that is the same in both is not touched.
  *   SW_FOUND, SW_USAGE, SW_REFUSED   as sw_site_import, the old maps first */
 int32_t sw_site_update(sw_site *site, uint64_t now, const uint8_t *old_maps, size_t old_len, const uint8_t *new_maps,
                        size_t new_len, sw_told *told);

@@ -30,7 +30,7 @@ typedef struct sw_text {
 typedef struct sw_command_told {
   size_t out_len;      /* bytes of standard output, also where `out` has no room for them */
   size_t err_len;      /* bytes of standard error, also where `err` has no room for them */
-  uint32_t input_read; /* 1 where the command reads its input; 0 where it does not, and any input has this answer */
+  uint32_t input_read; /* 1 if the command read its input; 0 if not: then the answer is the same for any input */
 } sw_command_told;
 
 /* Runs the command on the arguments after its name, over an input. The status is that of the process: 0 answered,
@@ -41,8 +41,8 @@ typedef struct sw_command_told {
  * its buffer nothing is written to that buffer, and the status is the same as with room: call again with the lengths
  * that `told` has. `told` is written whatever the status.
  *
- * `pick`, `new`, `explain`, help, the version, usage faults and refused arguments do not read the input. To read none
- * that is not wanted, call without an input first, and again with it where told->input_read is 1. An input of more than
+ * `pick`, `new`, `explain`, help, the version, usage faults and refused arguments do not read the input. To read an
+ * input only if it is needed, call without one first, and again with it if told->input_read is 1. An input of more than
  * 67,108,864 bytes is refused (23). An argument that is not UTF-8 is a usage fault, and one may hold a zero byte.
  *
  * The call prints nothing, waits for nothing, opens no file, does not end the process, and keeps no pointer. */

@@ -156,8 +156,8 @@ export class Refused extends Error {
   /** The row of the document, from 0, where a document is refused for one of its rows. */
   readonly row: number | null;
   /**
-   * Of 11 the place of the text in its label, from 0; of 12 how many texts the label has; of 13 the place of the cell
-   * in the receiving site, from 0.
+   * If the number is 11, the index of the text in its label; if it is 12, how many texts the label has; if it is 13, the
+   * index of the cell in the receiving site (indexes from 0).
    */
   readonly count: number | null;
   /** Whether the refusal is of the second of two documents, as the maps `after` of `update`. */
@@ -200,8 +200,8 @@ export interface WrittenSiteClass {
   /**
    * A document as `write`, `toBytes` or `lexicat` wrote it, or as another program wrote it again: with its members and
    * rows in their order, without blanks, and with any escapes in the strings of its rows. Most of it is not looked at.
-   * Of other bytes nothing is promised but an answer: a label may be missing, without a refusal. Refused, here or by a
-   * question: what does not read as a document (18 to 20).
+   * Given other bytes the calls return, but a label may be missing without a refusal. Refused, here or by a question:
+   * what does not read as a document (18 to 20).
    */
   new (document: Text): WrittenSite;
 }
@@ -284,8 +284,8 @@ export interface Calls {
   /** 10000 * major + 100 * minor + patch. */
   version: number;
   /**
-   * The tag that a reader gets, as it is in `tags`, or null (RFC 4647 section 3.4). The default is answered where
-   * nothing else is, if it is among the tags and the field does not refuse it. Refused: the default (1 to 4), the field
+   * The tag that a reader gets, as it is in `tags`, or null (RFC 4647 section 3.4). The default is answered if
+   * nothing else is, it is among the tags and the field does not exclude it. Refused: the default (1 to 4), the field
    * (8, 9), the tags in their order (1 to 4).
    */
   pick(field: Field, tags: readonly string[], options?: LookupOptions): string | null;

@@ -12,7 +12,7 @@ export interface Answer {
   errors: string;
 }
 
-/** The same in bytes, with whether the command reads its input: where it does not, any input has this answer. */
+/** The same in bytes, with whether the command read its input: if not, the answer is the same for any input. */
 export interface AnswerInBytes {
   status: Status;
   output: Uint8Array;

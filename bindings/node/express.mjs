@@ -63,7 +63,7 @@ export function languages({
   if (first === null) throw new RangeError('default must be one of the tags that are offered');
   return function readerLanguage(req, res, next) {
     const found = pickFor(req.headers['accept-language'], offered, options);
-    // (a reader who refuses the default too may get it nevertheless: RFC 9110 section 12.5.4)
+    // (a reader who excludes the default too still gets it, as RFC 9110 section 12.5.4 allows)
     const language = found ?? (strict ? null : first);
     req.language = language;
     req.label = (id) => labelIn(site, id, language, { default: fallback, widen, offer });

@@ -226,9 +226,9 @@ final class Site extends Questions
     }
 
     /**
-     * Makes the edits by which old language maps became new ones, and no others: all or none. What
-     * only the old ones have is deleted. What both have alike stays, with what others edited
-     * since.
+     * Makes the edits by which old language maps became new ones, and no others: all or none. A
+     * label that only the old ones have is deleted. A label that is the same in both is not
+     * touched, so it keeps what others edited since.
      *
      * @param array|string $old Language maps, or their JSON text.
      * @param array|string $new

@@ -8,8 +8,8 @@ namespace Silkwaram;
  * The document of a site, which is asked as it is and never opened: for pages, which ask little.
  *
  * It has to be a document that Silkwaram wrote, or that another program wrote again in the same
- * form: with members and rows in their order, and without spaces. Most of it is not looked at. Of
- * other bytes nothing is promised but an answer: a label may be missing, without an error.
+ * form: with members and rows in their order, and without spaces. Most of it is not looked at. Given
+ * other bytes a question returns, but a label may be missing without an error.
  */
 final class WrittenSite extends Questions
 {

@@ -199,8 +199,8 @@ def mapped(path: Path, copy: bool = False, check: bool = False) -> MappedSite:
     writes into such a file ends no process, though what was half written may be refused.
 
     Another program may have written the file again: with its members and rows in their order,
-    without blanks, and with any escapes in the strings of its rows. Of other bytes nothing is
-    promised but an answer: a label may be missing, without a refusal. A file whose ends are not
+    without blanks, and with any escapes in the strings of its rows. Given other bytes a question
+    returns, but a label may be missing without a refusal. A file whose ends are not
     those of a site is Refused here, and so may a question be that meets a row which is none. A file
     that cannot be read is an OSError here.
 

@@ -258,8 +258,8 @@ class Site(Questions):
         """Joins the cells of a delta that was made for this site. It may come twice, or late.
 
         `not_after` is the latest time that is taken, such as the clock and a day. A time far ahead
-        moves every site that takes it ahead, and the greatest there is ends edits. None is no
-        limit. With `check_own` an edit that this site made and lacks is refused, which shows that
+        pushes every site that takes it into the future, and after the greatest time no edit is
+        possible. None is no limit. With `check_own` an edit that this site made and lacks is refused, which shows that
         the site was put back to an older copy.
 
         Refused: what is no delta (18 to 21, 27, 28), and a field of a row (1 to 4, 10 to 12); a

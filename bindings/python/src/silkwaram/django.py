@@ -59,7 +59,7 @@ class LocaleMiddleware(locale.LocaleMiddleware):  # type: ignore[misc]
 def label(request: Any, id: str) -> Optional[Label]:
     """Returns the label of a message in the active language, or else in LANGUAGE_CODE, or None.
 
-    All labels of a request are of one state of the site. The request may be None.
+    Within one request all labels come from the same version of the file. The request may be None.
 
     Refused: the id (10), the file as by `Site.open`. A file that cannot be read is an OSError.
     """

@@ -9,14 +9,14 @@ The application finds in its environ or scope, under the names that this module 
   label of `message` that the reader gets. It is None if the reader gets none, and if a site
   has no such label or no `message` is named;
 - `LABEL`, with a site alone: a function that returns the `Label` of a message id that the reader
-  gets, or None. All labels of a request are of one state of the site, also when it is reloaded.
+  gets, or None. Within one request all labels come from the same version of the site.
 
 The site is an open or a mapped `site`, or that of the file at `path`, which is read anew when the
 file was replaced: it is looked at once a second at most, and by a thread of its own. A file that is
 missing or broken leaves the site as it was; a warning is logged, and the file is tried again. Its
 labels in languages of private use, as `x-note`, are shown to no reader, unless `offer` has them.
 
-A reader who refuses the default too gets it nevertheless, as RFC 9110 section 12.5.4 allows; with
+A reader who excludes the default too still gets it, as RFC 9110 section 12.5.4 allows; with
 `strict` such a reader gets None. A language finds its regions too, as `en` finds `en-US`; without
 `widen` it does not, as RFC 4647's lookup has it.
 

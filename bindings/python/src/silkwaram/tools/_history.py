@@ -5,10 +5,10 @@ import re
 import time
 from typing import Dict, Iterator, List, Optional, Tuple
 
-from .._answers import Cell, Change, Status
+from .._answers import Change, Status
 from ._documents import edit_of, row_of, texts_of
 from ._log import SECONDS_OF_A_DAY, Exchange, Line, Log, moment
-from ._place import Place, is_overridden
+from ._place import Place, is_overridden, shown
 from ._shared import (
     LIMIT, MILLISECONDS_OF_A_DAY, USAGE, Fault, clock, compact, count_of, moment_of,
 )
@@ -16,13 +16,6 @@ from ._shared import (
 MEGABYTE = 1_000_000
 # A site of more than this part of what a command reads is said to be near its end.
 NEAR = 0.8
-
-
-def _shown(cell: Optional[Cell]) -> str:
-    """The texts of a cell, in words."""
-    if cell is None:
-        return "nothing"
-    return "deleted" if cell.texts is None else " | ".join(map(compact, cell.texts))
 
 
 def _seconds(when: str) -> int:
@@ -48,7 +41,7 @@ def log_lines(log: Log, id: Optional[str] = None, language: Optional[str] = None
             by = f", by {edit.after.stamp.site}" if edit.after else ""
             lines.append(
                 f"{begin}: {compact(edit.id)} {edit.language}:"
-                f" {_shown(edit.before)} -> {_shown(edit.after)}{by}"
+                f" {shown(edit.before)} -> {shown(edit.after)}{by}"
             )
     return lines
 
@@ -99,8 +92,8 @@ def conflicts(log: Log, site: bytes, name: str, since: Optional[str]) -> List[st
         after = it.after.stamp
         lines += [
             f"message {compact(it.id)} in {it.language}",
-            f"    yours:  {_shown(it.before)} ({moment_of(it.before.stamp.time)})",
-            f"    theirs: {_shown(it.after)} ({after.site}, {moment_of(after.time)})",
+            f"    yours:  {shown(it.before)} ({moment_of(it.before.stamp.time)})",
+            f"    theirs: {shown(it.after)} ({after.site}, {moment_of(after.time)})",
         ]
     return lines
 
@@ -139,6 +132,10 @@ def doctor(place: Place, site: bytes, status: Status) -> Tuple[List[str], bool]:
                 " that is sent with it; check that the clocks are right"
             )
     lines += _lines_of_log(place.log)
+    if not place.log.can_grow():
+        faults.append(
+            f"{place.log.path} cannot be written: no edit is logged, and conflicts shows nothing"
+        )
     try:
         place.check_not_older(site)
     except Fault as fault:

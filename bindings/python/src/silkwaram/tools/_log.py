@@ -106,6 +106,16 @@ class Log:
             os.close(file)
         self._forget()
 
+    def can_grow(self) -> bool:
+        """Whether an edit can be added, or the log can be made."""
+        if not os.path.lexists(self.path):
+            return os.access(os.path.dirname(self.path) or ".", os.W_OK)
+        try:
+            os.close(self._opened(os.O_RDWR | os.O_APPEND))
+        except OSError:
+            return False
+        return True
+
     def _forget(self) -> None:
         """Takes out the lines that are older than those that are kept, but the last of each
         site."""

@@ -8,7 +8,7 @@ import sys
 from typing import Iterator, List, Optional, Sequence
 
 from .. import _in_place
-from .._answers import Change, changes
+from .._answers import Cell, Change, changes
 from ._command import run, status_of
 from ._locating import Document
 from ._log import Log
@@ -168,33 +168,52 @@ class Place:
                     _in_place.replace(self.path, new)
                 except OSError as fault:
                     raise Fault(f"{self.name}: cannot be replaced: {fault.strerror}") from None
-            self._add_to_log(by, lines.split(b"\n")[1:-1], sites)
+            is_logged = self._add_to_log(by, lines.split(b"\n")[1:-1], sites)
         finally:
             signal.pthread_sigmask(signal.SIG_SETMASK, former)
         if sites is not None:
-            self._tell_overridden(new, lines)
+            self._tell_overridden(new, lines, is_logged)
 
-    def _add_to_log(self, by: str, rows: List[bytes], sites: Optional[List[str]]) -> None:
+    def _add_to_log(self, by: str, rows: List[bytes], sites: Optional[List[str]]) -> bool:
+        """Whether the log has the edit."""
         try:
             self.log.add(by, rows, stat.S_IMODE(os.stat(self.path).st_mode), sites)
+            return True
         except OSError as fault:
             is_none = fault.errno in NO_LOG
             why = "is not a plain file that may be written" if is_none else fault.strerror
             self.program.tell(
                 f"{self.name}: the edit was made, but is not in the log: {self.log.path}: {why}"
             )
+            return False
 
-    def _tell_overridden(self, new: bytes, lines: bytes) -> None:
-        """Says how many texts of this site an exchange has overridden."""
+    def _tell_overridden(self, new: bytes, lines: bytes, is_logged: bool) -> None:
+        """Says how many texts of this site an exchange has overridden, and each of them if no log
+        has it."""
         status = status_of(new)
         name = status.site if status else ""
-        count = sum(is_overridden(it, name) for it in changes(lines.decode()))
-        if count:
-            were, them = ("was", "it") if count == 1 else ("were", "them")
+        lost = [it for it in changes(lines.decode()) if is_overridden(it, name)]
+        if not lost:
+            return
+        were, them = ("was", "it") if len(lost) == 1 else ("were", "them")
+        told = f"{self.name}: {count_of(len(lost), 'text')} of this site {were} overridden"
+        told += " by later edits"
+        if is_logged:
+            self.program.tell(f"{told}: lexicat-file {self.name} conflicts shows {them}")
+            return
+        self.program.tell(f"{told}, and no log has {them}:")
+        for it in lost:
             self.program.tell(
-                f"{self.name}: {count_of(count, 'text')} of this site {were} overridden by later"
-                f" edits: lexicat-file {self.name} conflicts shows {them}"
+                f"message {compact(it.id)} in {it.language}: {shown(it.before)} was overridden by"
+                f" {shown(it.after)}"
             )
+
+
+def shown(cell: Optional[Cell]) -> str:
+    """The texts of a cell, in words."""
+    if cell is None:
+        return "nothing"
+    return "deleted" if cell.texts is None else " | ".join(map(compact, cell.texts))
 
 
 def is_overridden(edit: Change, site: str) -> bool:

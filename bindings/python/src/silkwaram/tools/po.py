@@ -37,7 +37,7 @@ Usage: lexicat-po out --lang LANG --source LANG [SITE] > FILE.po
                not come from a site, each in one language
 
 An entry's msgctxt is the id of its message. Messages that cannot be used are
-listed on standard error; all else is done, and the status is 7.
+listed on standard error; the rest is done, and the status is 7.
 
   --lang LANG            the language of the translations; for maps the default
                          is what a file states, or its name

@@ -210,6 +210,12 @@ no_logs() {
         prints "matched fr [\"$it\"]"
     done
     [ ! -s elsewhere ] || fault 'a link is followed'
+    # What an exchange overrides is told then, with both texts.
+    lexicat-file tokyo.json new --site tokyo
+    lexicat-file tokyo.json put --id hi --lang fr Salut --now 9999999999999 --force
+    ends 0 lexicat-file paris.json sync tokyo.json --no-limit
+    reports 'paris.json: 1 text of this site was overridden by later edits, and no log has it:' \
+        'message "hi" in fr: "mkfifo" was overridden by "Salut"'
     tidy
 }
 

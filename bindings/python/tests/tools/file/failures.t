@@ -99,6 +99,11 @@ failing_calls() {
     reports 'the edit was made, but is not in the log'
     lexicat-file paris.json lookup --id hi en > output
     prints 'matched en ["Bye"]'
+    # (by the flags with which it is opened to be written, and not to be read)
+    FAIL=os.open:EACCES:$(python3 -c 'from os import *
+print(O_RDWR | O_APPEND | O_CLOEXEC | O_NOFOLLOW | O_NONBLOCK)') ends 1 lexicat-file paris.json doctor
+    grep -q 'FAULT: .*paris.json.changes cannot be written: no edit is logged' output ||
+        fault "doctor: $(cat output)"
     tidy
 }
 
