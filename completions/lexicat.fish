@@ -14,7 +14,7 @@ complete -c lexicat -n "$first" -a status -d 'Prints how many cells and labels a
 complete -c lexicat -n "$first" -a import -d 'Puts the labels of language maps into a site, each under a new timestamp'
 complete -c lexicat -n "$first" -a update -d 'Applies what an editor changed in language maps, and nothing else'
 complete -c lexicat -n "$first" -a export -d 'Prints the labels of a site as language maps'
-complete -c lexicat -n "$first" -a missing -d 'Prints the messages that have labels but none in this very language, as language maps'
+complete -c lexicat -n "$first" -a missing -d 'Prints the messages that have labels, but none in LANG itself, as language maps'
 complete -c lexicat -n "$first" -a outdated -d 'Prints the messages whose label in one language is older than that in another, as language maps'
 complete -c lexicat -n "$first" -a changes -d 'Prints how the cells of two sites differ, such as one before and after an update'
 complete -c lexicat -n "$first" -a filter -d 'Prints the labels of a message whose languages fit, best first'
