@@ -14,8 +14,8 @@ from ._shared import (
 )
 
 MEGABYTE = 1_000_000
-# A site of more than this part of what a command reads is said to be near its end.
-NEAR = 0.8
+# Two sites of more than this part of what a command reads are too large for one command.
+HALF = 0.5
 
 
 def _seconds(when: str) -> int:
@@ -118,9 +118,10 @@ def doctor(place: Place, site: bytes, status: Status) -> Tuple[List[str], bool]:
         f"site {status.site}: {count_of(status.labels, 'label')}, {count_of(deleted, 'deletion')},"
         f" {len(site) / MEGABYTE:.1f} MB, {share:.0%} of what a command reads",
     ]
-    if share > NEAR:
+    if share > HALF:
         faults.append(
-            "the site is near the most that a command reads: docs/SCALING.md says how to split it"
+            f"the site is over half of the {LIMIT} bytes that a command reads, so a sync or a merge"
+            " with another as large is refused: docs/SCALING.md says how to split it"
         )
     if status.last is None:
         lines.append("last edit: none")

@@ -36,6 +36,9 @@ too_large() {
     same paris.json before
     ends 0 lexicat-file paris.json put --now 5 --id z --lang en "$(cat text)"
     [ "$(wc -c < paris.json)" -eq "$bytes" ] || fault "$(wc -c < paris.json) bytes"
+    ends 1 lexicat-file paris.json doctor
+    grep -q "FAULT: the site is over half of the $bytes bytes that a command reads" output ||
+        fault "doctor: $(cat output)"
     tidy
     rm -f paris.json paris.json.changes before maps
 }
