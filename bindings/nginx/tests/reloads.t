@@ -38,6 +38,12 @@ reloads() {
     until_so is_anew && kill -0 "$first" && echo '3000 requests, 5 reloads'
 }
 
+# (a worker of the state before may still be there on a busy machine)
+is_kept() {
+    answers 'fr state-1 ' / -H 'Accept-Language: fr' > "$room/after"
+    [ ! -s "$room/after" ]
+}
+
 is_refused() { [ "$(grep -c '\[emerg\]' "$room/error.log")" -gt "$1" ]; } # once more
 
 # A state that is refused leaves the one that is there.
@@ -49,8 +55,7 @@ keeps() {
     kill -HUP "${servers[-1]}"
     until_so is_refused "$before" || return 1
     asked=0
-    answers 'fr state-1 ' / -H 'Accept-Language: fr' > "$room/after"
-    [ ! -s "$room/after" ] && echo
+    until_so is_kept && echo
 }
 
 check 'the module is there' has_module
