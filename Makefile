@@ -68,7 +68,7 @@ build/browser/silkwaram.wasm: $(SOURCES) $(wildcard include/*) tools/browser \
 		$(wildcard bindings/browser/*.* bindings/node/express.*)
 	RT='$(RT)' tools/browser
 
-#: make test          the whole gate, from nothing: 35 to 90 minutes on four processors, by how many
+#: make test          the whole gate, from nothing: 60 to 90 minutes on four processors, by how many
 #:                    mutants tools/mutants/verdicts lacks; twice that on two. What lacks a tool is
 #:                    skipped, and counted. STRICT=1 fails where anything was
 # Every proof, from nothing where this machine has not passed the same crate before, the tests and the

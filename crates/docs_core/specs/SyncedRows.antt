@@ -45,7 +45,7 @@ AreNames tests first second = MatchOption tests.first ⊤ (λ name. name ≡ fir
 abbrev pub IsOfAnother : Option (List ℕ) → List ℕ → Type 0
 IsOfAnother name site = MatchOption name ⊤ (λ name. site ≢ name)
 
--- where the site of this name made the other cell, its own is no earlier
+-- if the site of this name made the other cell, its own cell is no earlier
 abbrev pub IsKept : Option (List ℕ) → Cell → Cell → Type 0
 IsKept name own other = MatchOption name ⊤
     (λ name. other.stamp.site ≡ name → stamp_cmp own.stamp other.stamp ≢ Less)

@@ -167,9 +167,9 @@ fn written_synced(
     }
 }
 
-/// What is tested of the rows of two sites under these checks. The names of the sites are those at
-/// the ends of their documents, as far as these are as they are written: that they are the names is
-/// seen when all rows were read. `None` where no name is there.
+/// What is tested of the rows of two sites under these checks. The names of the sites are read at
+/// the ends of their documents, and compared with those of the sites once all rows were read.
+/// `None` if a document has no name at its end.
 fn tests_of(first: &[u8], second: &[u8], checks: Checks) -> Option<Tests>
     ensures { IfSome result (AreTestsOf checks) }
 {

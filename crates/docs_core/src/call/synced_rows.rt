@@ -22,15 +22,15 @@ use site_docs::{CellRef, CellSink, LabelRef, RowsDraft, WrittenRow, WrittenRows}
 use std::alloc::{AllocError, Global};
 use std::cmp::Ordering;
 
-/// What the rows of two sites are tested for as they are joined. Where a test fails the two are not
-/// joined so.
+/// What the rows of two sites are tested for as they are joined. A row that fails a test ends the
+/// joining, and says nothing: the documents have to be read in another way.
 #[derive(Clone, Copy)]
 pub(crate) struct Tests {
     /// The greatest time that a row may have.
     pub(crate) not_after: Option<u64>,
-    /// The name of the site that is seen, where it may lack no edit of its own.
+    /// The name of the site that is seen, if edits are looked for that it made and lacks.
     pub(crate) first: Option<SiteName>,
-    /// That of the other document's site.
+    /// The name of the other document's site, likewise.
     pub(crate) second: Option<SiteName>,
 }
 
@@ -284,8 +284,8 @@ fn write_both(
     advance(alloc, tests.not_after, rows)
 }
 
-/// Writes the later of the cells of a key, where they are known to agree, and the site of the
-/// earlier one did not make it.
+/// Writes the later of the cells of a key, if they are known to agree, and the site that has the
+/// earlier one did not make the later one.
 fn write_later(
     alloc: Global,
     tests: &Tests,
@@ -319,8 +319,8 @@ fn write_later(
     Some(())
 }
 
-/// Writes a row of the other document, of whose key the site that is seen has nothing or an earlier
-/// cell, where that site did not make it.
+/// Writes a row of the other document, unless the site that is seen made it: of its key that site
+/// has nothing, or an earlier cell.
 fn write_theirs(tests: &Tests, row: &WrittenRow<'_, '_>, draft: &mut RowsDraft) -> Option<()>
     requires { IsRowText row.now }
     ensures { IfSome result (λ _. IsOfAnother tests.now.first (row_entry row.now).1.stamp.site

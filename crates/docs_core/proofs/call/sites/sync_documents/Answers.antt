@@ -1,4 +1,4 @@
-use Rattle.std.proofs.Common.{◌≡◌, ◌∙◌, ◌<◌, ◌^◌, List, Option, ap, arith, inl, inr, length}
+use Rattle.std.proofs.Common.{◌∙◌, ◌<◌, ◌^◌, List, Option, ap, arith, inl, inr, length}
 use Rattle.std.proofs.Common.{subst, sym, ℕ}
 use Rattle.std.proofs.lemmas.Result.{err_from_is_err_and}
 use Rattle.catalogue.specs.CataFault.{IsRefusal}
