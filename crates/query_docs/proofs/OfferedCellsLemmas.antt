@@ -3,7 +3,7 @@
 -- A cell more is offered or not, whatever came before it. The cells that are offered come in the
 -- order of all, so a cell that is above all cells before is above those of them that are offered.
 use Rattle.std.proofs.Common.{◌≡◌, ◌∙◌, ◌++◌, [], ◌∷◌, List, ap, append-nil, cond, false, true}
-use Rattle.std.specs.Prelude.{All, Bool, filter}
+use Rattle.std.specs.Prelude.{Bool}
 use Rattle.std.specs.declared.cmp.Ordering.TheVariants.{Less}
 use Rattle.std.proofs.lemmas.List.Elements.{filter-append}
 use Rattle.list_core.specs.Item.{Item}

@@ -1,6 +1,6 @@
 -- The digits of a digest.
-use Rattle.std.proofs.Common.{◌≡◌, ◌∙◌, ◌+◌, ◌<◌, ◌/◌, ◌%◌, ◌++◌, ◌&&◌, ℕ, zero, suc, Bool, true}
-use Rattle.std.proofs.Common.{List, [], ◌∷◌, ap, arith, codes, length, map, refl, sym}
+use Rattle.std.proofs.Common.{◌≡◌, ◌∙◌, ◌<◌, ◌/◌, ◌%◌, ◌++◌, ℕ, zero, suc, true}
+use Rattle.std.proofs.Common.{List, [], ◌∷◌, ap, arith, codes, refl}
 use Rattle.std.specs.Prelude.{Option, slice_index}
 use Rattle.std.specs.List.{list_all}
 use Rattle.std.specs.Int.{byte_at, bytes_high_first}

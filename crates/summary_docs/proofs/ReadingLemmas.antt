@@ -9,7 +9,7 @@ use Rattle.std.proofs.Common.{◌≡◌, ◌≢◌, ◌∙◌, ◌&&◌, ◌≤�
 use Rattle.std.proofs.Common.{Global, Vec, ap, ap₂, arith, cond, inl, inr, length, map, max, refl}
 use Rattle.std.proofs.Common.{◌+◌, ◌++◌, ◌<◌, codes, get_or, string_bytes, subst, suc, sym, take}
 use Rattle.std.proofs.Common.{true≢false, zero}
-use Rattle.std.specs.Prelude.{◌⊎◌, IsUtf8, None, Option, Some, is_some, option_and_then}
+use Rattle.std.specs.Prelude.{IsUtf8, None, Option, Some, is_some, option_and_then}
 use Rattle.std.specs.Prelude.{MatchOption, option_map, unwrap_or}
 use Rattle.std.specs.Ordering.{match_ordering, nat_cmp, is_eq}
 use Rattle.std.specs.declared.cmp.Ordering.{Ordering}

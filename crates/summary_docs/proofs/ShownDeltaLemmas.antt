@@ -5,8 +5,8 @@
 -- first key. Then of a delta: a cell is left out only if the summary shows its key with a later
 -- stamp, which agrees and wins, or with its own stamp and digest. In the latter case the premise
 -- that digests tell labels apart makes the two cells one.
-use Rattle.std.proofs.Common.{◌≡◌, ◌∙◌, ◌∷◌, ℕ, ◌<◌, Bool, true, false, cond, List, []}
-use Rattle.std.proofs.Common.{Option, None, Some, ap, inl, inr, refl, subst, sym, true≢false}
+use Rattle.std.proofs.Common.{◌≡◌, ◌∙◌, ◌∷◌, ℕ, Bool, true, false, cond, List, []}
+use Rattle.std.proofs.Common.{Option, None, Some, ap, inr, refl, subst, sym, true≢false}
 use Rattle.std.specs.Prelude.{◌↔◌, filter, not, slice_get}
 use Rattle.std.specs.Option.{option_map}
 use Rattle.std.specs.declared.cmp.Ordering.{Ordering}
@@ -27,7 +27,7 @@ use Rattle.cell_core.specs.KeyedLaws.{also_map, at_of, find-joined_maps, joined_
 use Rattle.cell_core.specs.KeyedLaws.{same_maps}
 use Rattle.cell_core.specs.Entry.{EntryKey, key_cmp, key_cmp_exact, key_cmp_total}
 use Rattle.catalogue.specs.CataFault.{IsRefusal}
-use Rattle.catalogue.specs.Clash.{AgreesAt, IsFirstClash}
+use Rattle.catalogue.specs.Clash.{IsFirstClash}
 use Rattle.catalogue.specs.Entries.{Agree, Entries, Entry, joined}
 use Rattle.catalogue.specs.declared.cata_fault.CataFault.{CataFault}
 use Rattle.catalogue.specs.declared.cata_fault.CataFault.TheVariants as cata

@@ -1,5 +1,5 @@
 -- The document of a summary that shows labels, as it is written, reads as that summary.
-use Rattle.std.proofs.Common.{◌≡◌, ◌∙◌, ◌+◌, ◌<◌, ◌^◌, ◌++◌, ◌&&◌, ℕ, List, [], ◌∷◌, Bool, true}
+use Rattle.std.proofs.Common.{◌≡◌, ◌∙◌, ◌+◌, ◌<◌, ◌^◌, ◌++◌, ℕ, List, [], ◌∷◌, true}
 use Rattle.std.proofs.Common.{cond}
 use Rattle.std.proofs.Common.{ap, append_assoc, arith, codes, inr, length, map, refl, subst, sym}
 use Rattle.std.proofs.Common.{take}
@@ -19,7 +19,6 @@ use Rattle.lang_core.proofs.Basics.{each_true}
 use Rattle.cell_core.specs.SiteName.{IsSiteName}
 use Rattle.cell_core.specs.declared.stamp.Stamp.{Stamp}
 use Rattle.cell_core.specs.Entry.{EntryKey}
-use Rattle.catalogue.specs.Entries.{Entries}
 use Rattle.cata_core.specs.Delta.{Stamps}
 use Rattle.cata_core.specs.Summary.{SummaryState}
 use Rattle.json_docs.specs.FaultChecks.{AllPass, Check, rows_checks}

@@ -10,7 +10,6 @@ use Rattle.cell_core.specs.Stamp.{stamp_cmp}
 use Rattle.cell_core.specs.Entry.{EntryKey, key_cmp}
 use Rattle.catalogue.specs.Entries.{Entries}
 use Rattle.cata_core.specs.Delta.{Stamps, summary_of}
-use Rattle.cata_core.specs.Site.{SiteState}
 use Rattle.cata_core.specs.Summary.{SummaryState}
 use Rattle.summary_docs.specs.Digest.{digest}
 

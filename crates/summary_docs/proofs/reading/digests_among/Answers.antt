@@ -1,7 +1,5 @@
-use Rattle.std.proofs.Common.{◌≡◌, ◌∙◌, ap, arith, length, string_bytes, sym}
+use Rattle.std.proofs.Common.{◌≡◌, arith, length, sym}
 use Rattle.std.proofs.Math.Seq.{take-length}
-use Rattle.std.specs.Prelude.{Some}
-use Rattle.serde_json.specs.View.{view}
 use Rattle.summary_docs.specs.Reading.{digest_in}
 use Rattle.summary_docs.proofs.ReadingLemmas.{none_at, one_digest_more}
 use Rattle.summary_docs.proofs.reading.digests_among.Goals as goal

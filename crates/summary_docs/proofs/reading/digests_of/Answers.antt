@@ -1,9 +1,7 @@
-use Rattle.std.proofs.Common.{◌≡◌, ◌∙◌, ap, map, subst, sym, ℕ, List}
+use Rattle.std.proofs.Common.{◌≡◌, ◌∙◌, ap, map, sym}
 use Rattle.std.proofs.lemmas.Result.{IfOk-weaker}
-use Rattle.std.specs.Prelude.{MatchOption, Option, Some, option_map}
-use Rattle.cell_core.specs.Label.{texts_of}
+use Rattle.std.specs.Prelude.{Some, option_map}
 use Rattle.json_docs.specs.Parts.{items_in, list_of}
-use Rattle.serde_json.specs.Data.{Data}
 use Rattle.serde_json.specs.View.{view}
 use Rattle.row_docs.proofs.EntriesWrittenRows.{list_of-items_of}
 use Rattle.summary_docs.proofs.ReadingLemmas.{found_among}

@@ -1,4 +1,3 @@
-use Rattle.std.proofs.Common.{sym}
 use Rattle.std.specs.Prelude.{◌≢◌}
 use Rattle.json_docs.specs.declared.fault.DocCause.TheVariants.{NoMemory, Shape}
 use Rattle.json_docs.specs.declared.fault.Spot.TheVariants.{Document}

@@ -1,8 +1,8 @@
-use Rattle.std.proofs.Common.{◌++◌, append_assoc, subst}
+use Rattle.std.proofs.Common.{◌++◌}
 use Rattle.std.proofs.lemmas.Result.{IfOk-weaker}
 use Rattle.cell_core.specs.Label.{texts_of}
 use Rattle.row_docs.specs.EntriesValues.{texts_value}
-use Rattle.row_docs.specs.WritingTexts.{Adds, value_tokens}
+use Rattle.row_docs.specs.WritingTexts.{value_tokens}
 use Rattle.row_docs.proofs.WritingTextsLemmas.{Adds-then}
 use Rattle.summary_docs.specs.Writing.{kind_opening, stamps_opening}
 use Rattle.summary_docs.proofs.writing.open_labels.Goals as goal

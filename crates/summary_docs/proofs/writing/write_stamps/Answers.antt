@@ -1,4 +1,4 @@
-use Rattle.std.proofs.Common.{◌≡◌, arith, length, subst, sym, take}
+use Rattle.std.proofs.Common.{◌≡◌, arith, length, sym}
 use Rattle.std.proofs.Math.Seq.{take-length}
 use Rattle.cell_core.specs.Entry.{EntryKey}
 use Rattle.cell_core.specs.declared.stamp.Stamp.{Stamp}

@@ -1,4 +1,4 @@
-use Rattle.std.proofs.Common.{◌≡◌, ◌∙◌, List, ap, string_bytes, sym, ℕ}
+use Rattle.std.proofs.Common.{◌∙◌, List, ap, string_bytes, sym, ℕ}
 use Rattle.std.proofs.lemmas.Option.{slice_get-map}
 use Rattle.std.specs.Prelude.{Option, Some, option_map, slice_get}
 use Rattle.cell_core.specs.Entry.{EntryKey}
