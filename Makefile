@@ -57,14 +57,14 @@ demo: build/lexicat
 #:                    two more than the command
 library: build/lib/libsilkwaram.a
 
-build/lib/libsilkwaram.a: $(SOURCES) $(wildcard include/*) tools/library
+build/lib/libsilkwaram.a: $(SOURCES) $(wildcard include/*) tools/library tools/calls
 	RT='$(RT)' tools/library
 
 #: make browser       the package for Node and pages, as WebAssembly, in build/browser
 #:                    (docs/BROWSER.md): a minute or two more than the library
 browser: build/browser/silkwaram.wasm
 
-build/browser/silkwaram.wasm: $(SOURCES) $(wildcard include/*) tools/browser \
+build/browser/silkwaram.wasm: $(SOURCES) $(wildcard include/*) tools/browser tools/calls \
 		$(wildcard bindings/browser/*.* bindings/node/express.*)
 	RT='$(RT)' tools/browser
 
@@ -200,5 +200,5 @@ proofs:
 
 #: make clean         removes what was built, and what was kept of proofs
 clean:
-	rm -rf build
+	rm -rf build bindings/python/src/silkwaram/_calls.py
 	find crates -name out -type d -prune -exec rm -rf {} +

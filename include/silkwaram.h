@@ -10,6 +10,9 @@
  * if there is none, nothing is written to `out`. So `told->len > out_len` means that the answer did not fit, and
  * `told->len` is the size that it needs; the status is the same as with room: call again.
  *
+ * After each declaration stands the version that had the call first with these parameters, and what document it reads.
+ * A program that was linked with an earlier form of a call is not loaded: compile it anew.
+ *
  * No call prints, waits, ends the process, or keeps a pointer that it was passed. Each call is proved to answer, to
  * write and to leave what is said here. Not proved: time, stack and memory, which are measured; that an edit through
  * the only handle of a site makes no copy; that sw_site_share makes none, and that the last handle of a site frees its
@@ -89,7 +92,7 @@ typedef struct sw_site {
 } sw_site;
 
 /* The version of the library, as SW_VERSION. */
-uint32_t sw_version(void);
+uint32_t sw_version(void); /* since 0.2 */
 
 /* Which of some languages a reader gets (RFC 4647 section 3.4). `tags` are the languages there are: language tags in
  * any case, or `@none`, one on a line, with or without an LF (a byte 10) after the last; no bytes at all are no tags.
@@ -103,7 +106,7 @@ uint32_t sw_version(void);
  * If a request has no Accept-Language, pass `*`; an empty field is an empty list. Both find the default alone: so let
  * the default be your first language. A field has at most 65,535 bytes (8). */
 int32_t sw_pick(uint32_t flags, const uint8_t *field, size_t field_len, const uint8_t *tags, size_t tags_len,
-                const uint8_t *dflt, size_t dflt_len, uint8_t *out, size_t out_len, sw_told *told);
+                const uint8_t *dflt, size_t dflt_len, uint8_t *out, size_t out_len, sw_told *told); /* since 0.2 */
 
 /* Reads a site document into a handle. If the handle is open, its old site is let go once the new one is read, and
  * stays if the document is refused: so a running server takes up a new state. The text is not needed after the call.
@@ -114,6 +117,7 @@ int32_t sw_pick(uint32_t flags, const uint8_t *field, size_t field_len, const ui
  *                told->row is that row, if it is of a row, told->offset the place in the document (18) or in the
  *                tag (3) */
 int32_t sw_site_open(const uint8_t *text, size_t text_len, sw_site *site, sw_told *told);
+                     /* since 0.2, reads a site document */
 
 /* ---- What readers are offered.
  *
@@ -137,7 +141,7 @@ int32_t sw_site_open(const uint8_t *text, size_t text_len, sw_site *site, sw_tol
  * A message that the site does not have is SW_NOTHING. */
 int32_t sw_site_lookup(sw_site *site, const uint8_t *offer, size_t offer_len, uint32_t flags, const uint8_t *id,
                        size_t id_len, const uint8_t *field, size_t field_len, const uint8_t *dflt, size_t dflt_len,
-                       uint8_t *out, size_t out_len, sw_told *told);
+                       uint8_t *out, size_t out_len, sw_told *told); /* since 0.4 */
 
 /* One text of the label that sw_site_lookup finds, as it is: UTF-8, without quotes and without an LF. A label has 1 to
  * 64 texts, each of at most 65,535 bytes, and mostly one: that at `place` 0. told->count is how many the label has.
@@ -146,7 +150,7 @@ int32_t sw_site_lookup(sw_site *site, const uint8_t *offer, size_t offer_len, ui
  *   SW_USAGE, SW_REFUSED   as sw_site_lookup */
 int32_t sw_site_text(sw_site *site, const uint8_t *offer, size_t offer_len, uint32_t flags, const uint8_t *id,
                      size_t id_len, const uint8_t *field, size_t field_len, const uint8_t *dflt, size_t dflt_len,
-                     size_t place, uint8_t *out, size_t out_len, sw_told *told);
+                     size_t place, uint8_t *out, size_t out_len, sw_told *told); /* since 0.4 */
 
 /* The labels of a message that a reader takes, best first (RFC 4647 section 3.3). The answer has the lines of the
  * command `filter`, with their LFs: `filter N`, then N lines `LANGUAGE WEIGHT LABEL`, the weight in thousandths.
@@ -155,7 +159,7 @@ int32_t sw_site_text(sw_site *site, const uint8_t *offer, size_t offer_len, uint
  *   SW_USAGE, SW_REFUSED   as sw_site_lookup, without the default */
 int32_t sw_site_filter(sw_site *site, const uint8_t *offer, size_t offer_len, uint32_t flags, const uint8_t *id,
                        size_t id_len, const uint8_t *field, size_t field_len, uint8_t *out, size_t out_len,
-                       sw_told *told);
+                       sw_told *told); /* since 0.4 */
 
 /* The same three questions to the document of a site where it lies, which is not opened: `text` is what sw_site_write or
  * `lexicat` writes for the site, with its last LF or without, of any length, for example a mapped file. The rows of the
@@ -174,12 +178,14 @@ int32_t sw_site_filter(sw_site *site, const uint8_t *offer, size_t offer_len, ui
 int32_t sw_text_lookup(const uint8_t *text, size_t text_len, const uint8_t *offer, size_t offer_len,
                        uint32_t flags, const uint8_t *id, size_t id_len, const uint8_t *field, size_t field_len,
                        const uint8_t *dflt, size_t dflt_len, uint8_t *out, size_t out_len, sw_told *told);
+                       /* since 0.4, reads a site document */
 int32_t sw_text_text(const uint8_t *text, size_t text_len, const uint8_t *offer, size_t offer_len, uint32_t flags,
                      const uint8_t *id, size_t id_len, const uint8_t *field, size_t field_len, const uint8_t *dflt,
                      size_t dflt_len, size_t place, uint8_t *out, size_t out_len, sw_told *told);
+                     /* since 0.4, reads a site document */
 int32_t sw_text_filter(const uint8_t *text, size_t text_len, const uint8_t *offer, size_t offer_len,
                        uint32_t flags, const uint8_t *id, size_t id_len, const uint8_t *field, size_t field_len,
-                       uint8_t *out, size_t out_len, sw_told *told);
+                       uint8_t *out, size_t out_len, sw_told *told); /* since 0.4, reads a site document */
 
 /* All labels of one reader: of each message the label that sw_site_lookup finds, under its language. The answer is the
  * JSON document of the command `bundle` with its LF: language maps, as {"greeting":{"fr":"Bonjour"}}.
@@ -190,7 +196,7 @@ int32_t sw_text_filter(const uint8_t *text, size_t text_len, const uint8_t *offe
  *   SW_USAGE, SW_REFUSED   as sw_site_lookup, without the id */
 int32_t sw_site_bundle(sw_site *site, const uint8_t *offer, size_t offer_len, uint32_t flags, const uint8_t *field,
                        size_t field_len, const uint8_t *dflt, size_t dflt_len, uint8_t *out, size_t out_len,
-                       sw_told *told);
+                       sw_told *told); /* since 0.4 */
 
 /* ---- Sites that are made and edited.
  *
@@ -209,7 +215,7 @@ int32_t sw_site_bundle(sw_site *site, const uint8_t *offer, size_t offer_len, ui
  * old site is let go once the new one is made.
  *   SW_FOUND     the site is made
  *   SW_REFUSED   the name (27) */
-int32_t sw_site_new(const uint8_t *name, size_t name_len, sw_site *site, sw_told *told);
+int32_t sw_site_new(const uint8_t *name, size_t name_len, sw_site *site, sw_told *told); /* since 0.3 */
 
 /* Puts a label of one text for the message `id` in the language `lang`, or replaces the one that is there.
  *   SW_FOUND     done
@@ -218,13 +224,13 @@ int32_t sw_site_new(const uint8_t *name, size_t name_len, sw_site *site, sw_told
  *                UTF-8, by its place in told->offset; 11 if it is over 65,535 bytes), then the edit (14: no stamp is
  *                left) */
 int32_t sw_site_put(sw_site *site, uint64_t now, const uint8_t *id, size_t id_len, const uint8_t *lang,
-                    size_t lang_len, const uint8_t *text, size_t text_len, sw_told *told);
+                    size_t lang_len, const uint8_t *text, size_t text_len, sw_told *told); /* since 0.3 */
 
 /* Deletes the label of a message in a language, whether there is one or not: a later edit of another site brings it
  * back, an earlier one does not.
  *   SW_FOUND, SW_USAGE, SW_REFUSED   as sw_site_put, without the text */
 int32_t sw_site_delete(sw_site *site, uint64_t now, const uint8_t *id, size_t id_len, const uint8_t *lang,
-                       size_t lang_len, sw_told *told);
+                       size_t lang_len, sw_told *told); /* since 0.3 */
 
 /* Joins what the site of another handle has: of each label the later edit. The two handles are two, though they may be
  * of one site. If `not_after` is not 0 no time of the other site may be greater: a limit of a day ahead of the clock
@@ -233,7 +239,7 @@ int32_t sw_site_delete(sw_site *site, uint64_t now, const uint8_t *id, size_t id
  *   SW_USAGE     a flag that is none, or one of the handles is not open
  *   SW_REFUSED   first a time of the other site after the limit (29), then an edit of this site that it lacks (30),
  *                each by its row in the other site's document, then two edits of one label with one stamp (13) */
-int32_t sw_site_merge(sw_site *site, uint32_t flags, sw_site *other, uint64_t not_after, sw_told *told);
+int32_t sw_site_merge(sw_site *site, uint32_t flags, sw_site *other, uint64_t not_after, sw_told *told); /* since 0.4 */
 
 /* Takes the document of a delta for this site, which another site made with sw_site_delta. `flags` and `not_after` are
  * as for sw_site_merge.
@@ -243,7 +249,7 @@ int32_t sw_site_merge(sw_site *site, uint32_t flags, sw_site *other, uint64_t no
  *                delta for another site (15), then an edit of this site that it lacks (30), then two edits of one label
  *                with one stamp (13); of 29 and 30 told->row is the row */
 int32_t sw_site_take(sw_site *site, uint32_t flags, const uint8_t *delta, size_t delta_len, uint64_t not_after,
-                     sw_told *told);
+                     sw_told *told); /* since 0.4, reads a delta document */
 
 /* Puts the labels of language maps, as {"greeting":{"fr":"Bonjour"}}, all or none: as the command `import`. A label may
  * have several texts, and one that the site has already is put again.
@@ -252,12 +258,13 @@ int32_t sw_site_take(sw_site *site, uint32_t flags, const uint8_t *delta, size_t
  *   SW_REFUSED   the maps (18 to 20, 22; 1 to 4, 10 to 12 in a row of them), then a label for which no stamp is left
  *                (14) */
 int32_t sw_site_import(sw_site *site, uint64_t now, const uint8_t *maps, size_t maps_len, sw_told *told);
+                       /* since 0.3, reads language maps */
 
 /* Makes the changes from old language maps to new ones, all or none: as the command `update`. A label that only
  * the old maps have is deleted. A label that is the same in both is not touched.
  *   SW_FOUND, SW_USAGE, SW_REFUSED   as sw_site_import, the old maps first */
 int32_t sw_site_update(sw_site *site, uint64_t now, const uint8_t *old_maps, size_t old_len, const uint8_t *new_maps,
-                       size_t new_len, sw_told *told);
+                       size_t new_len, sw_told *told); /* since 0.3, reads language maps */
 
 /* ---- What the commands print of a site: `write` its document, which sw_site_open reads as this site; `summary` and
  * `delta` the documents for an exchange, `status` one line. The answer is made anew by each call, and then copied: for
@@ -266,11 +273,11 @@ int32_t sw_site_update(sw_site *site, uint64_t now, const uint8_t *old_maps, siz
  *   SW_USAGE     the handle is not open
  *   SW_REFUSED   of sw_site_delta alone: the summary (18 to 21, 27, 28; 10, or 1 to 4, in a row of it), as sw_site_open
  *                reports a document */
-int32_t sw_site_write(sw_site *site, uint8_t *out, size_t out_len, sw_told *told);
-int32_t sw_site_summary(sw_site *site, uint32_t flags, uint8_t *out, size_t out_len, sw_told *told);
-int32_t sw_site_status(sw_site *site, uint8_t *out, size_t out_len, sw_told *told);
+int32_t sw_site_write(sw_site *site, uint8_t *out, size_t out_len, sw_told *told); /* since 0.3 */
+int32_t sw_site_summary(sw_site *site, uint32_t flags, uint8_t *out, size_t out_len, sw_told *told); /* since 0.4 */
+int32_t sw_site_status(sw_site *site, uint8_t *out, size_t out_len, sw_told *told); /* since 0.3 */
 int32_t sw_site_delta(sw_site *site, const uint8_t *summary, size_t summary_len, uint8_t *out, size_t out_len,
-                      sw_told *told);
+                      sw_told *told); /* since 0.3, reads a summary document */
 
 /* The language maps of all labels, of the messages that lack a language, and of those whose label in `lang` is older
  * than that in `source`; and what changed from a site to that of another handle, as `changes N` and N lines. They are
@@ -279,12 +286,12 @@ int32_t sw_site_delta(sw_site *site, const uint8_t *summary, size_t summary_len,
  *   SW_NOTHING   there is none; the answer is `{}` or `changes 0`
  *   SW_USAGE     a handle is not open
  *   SW_REFUSED   `lang`, then `source` (1 to 4) */
-int32_t sw_site_export(sw_site *site, uint8_t *out, size_t out_len, sw_told *told);
+int32_t sw_site_export(sw_site *site, uint8_t *out, size_t out_len, sw_told *told); /* since 0.3 */
 int32_t sw_site_missing(sw_site *site, const uint8_t *lang, size_t lang_len, uint8_t *out, size_t out_len,
-                        sw_told *told);
+                        sw_told *told); /* since 0.3 */
 int32_t sw_site_outdated(sw_site *site, const uint8_t *lang, size_t lang_len, const uint8_t *source, size_t source_len,
-                         uint8_t *out, size_t out_len, sw_told *told);
-int32_t sw_site_changes(sw_site *site, sw_site *other, uint8_t *out, size_t out_len, sw_told *told);
+                         uint8_t *out, size_t out_len, sw_told *told); /* since 0.3 */
+int32_t sw_site_changes(sw_site *site, sw_site *other, uint8_t *out, size_t out_len, sw_told *told); /* since 0.3 */
 
 /* ---- Without a site. */
 
@@ -296,17 +303,17 @@ int32_t sw_site_changes(sw_site *site, sw_site *other, uint8_t *out, size_t out_
  *   SW_NOTHING   there is none; the answer is the line `filter 0`
  *   SW_REFUSED   first the field (8, 9), then the tags in their order (1 to 4; a line without bytes is 1) */
 int32_t sw_filter(uint32_t flags, const uint8_t *field, size_t field_len, const uint8_t *tags, size_t tags_len,
-                  uint8_t *out, size_t out_len, sw_told *told);
+                  uint8_t *out, size_t out_len, sw_told *told); /* since 0.3 */
 
 /* What a refusal means, by its number: a sentence on what was wanted, without an end mark, of at most 255 bytes.
  *   SW_FOUND     there is one
  *   SW_NOTHING   no refusal has this number; told->len is 0 */
-int32_t sw_refusal(uint32_t number, uint8_t *out, size_t out_len, sw_told *told);
+int32_t sw_refusal(uint32_t number, uint8_t *out, size_t out_len, sw_told *told); /* since 0.3 */
 
 /* What the command prints of a refusal after `refused N: `, of at most 255 bytes, with OFFSET, INDEX, COUNT and PLACE
  * where told->offset and told->count of the refused call belong: `subtag at OFFSET`. Of 13 it lacks the stamp, and of
  * 15 the name of the site, which no call reports. Statuses as of sw_refusal. */
-int32_t sw_refusal_text(uint32_t number, uint8_t *out, size_t out_len, sw_told *told);
+int32_t sw_refusal_text(uint32_t number, uint8_t *out, size_t out_len, sw_told *told); /* since 0.4 */
 
 /* ---- Handles. */
 
@@ -316,11 +323,11 @@ int32_t sw_refusal_text(uint32_t number, uint8_t *out, size_t out_len, sw_told *
  *   SW_FOUND      done
  *   SW_USAGE      the handle is not open; `other` stays as it is
  *   SW_NO_MEMORY  `other` stays as it is */
-int32_t sw_site_share(sw_site *site, sw_site *other);
+int32_t sw_site_share(sw_site *site, sw_site *other); /* since 0.2 */
 
 /* Lets a site go and leaves zeros in the handle. The last handle of a site frees its memory (tried, not proved). A
  * handle of zeros stays as it is. */
-void sw_site_free(sw_site *site);
+void sw_site_free(sw_site *site); /* since 0.2 */
 
 #ifdef __cplusplus
 }

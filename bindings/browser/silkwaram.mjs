@@ -25,17 +25,10 @@ const HAS_OFFSET = 1;
 const HAS_ROW = 2;
 const HAS_COUNT = 4;
 const OF_SECOND = 8;
-// The calls that read a document, and which one is wanted.
-const DOCUMENTS = {
-  sw_site_open: 'a site document is wanted',
-  sw_site_import: 'language maps are wanted',
-  sw_site_update: 'language maps are wanted',
-  sw_site_take: 'a delta document is wanted',
-  sw_site_delta: 'a summary document is wanted',
-  sw_text_lookup: 'a site document is wanted',
-  sw_text_text: 'a site document is wanted',
-  sw_text_filter: 'a site document is wanted',
-};
+// Each call as silkwaram.h declares it, which `tools/calls into` writes here.
+const CALLS = JSON.parse(String.raw`@CALLS@`);
+// What becomes of a parameter that is no text, by its kind.
+const NUMBERS = { uint32_t: Number, uint64_t: BigInt, size_t: BigInt, sw_site: BigInt };
 
 // Bytes of `sw_told` and of a handle, and of the room that is kept for the texts and the answer of a call.
 const TOLD = 40;
@@ -64,8 +57,14 @@ export class Refused extends Error {
   }
 }
 
+// What is wanted if a call refuses the shape of a document.
+function documentOf({ name, number }) {
+  const reads = number === SHAPE && CALLS[name].reads;
+  return reads ? `${reads} ${reads.endsWith('s') ? 'are' : 'is'} wanted` : undefined;
+}
+
 /** What is thrown if the module refuses a call of silkwaram.h. */
-function refusalOf(calls, report, wanted = report.number === SHAPE ? DOCUMENTS[report.name] : undefined) {
+function refusalOf(calls, report, wanted = documentOf(report)) {
   return new Refused(calls.refusalText(report.number), wanted ?? calls.meaning(report.number), report);
 }
 
@@ -98,11 +97,16 @@ function lookupFlagsOf(options) {
 // The flags and the limit by which an exchange tests what comes in.
 function checksOf(options) {
   const { notAfter = 0 } = options;
-  return [isOn(options, 'checkOwn') ? CHECK_OWN : 0, whole(notAfter, 'notAfter', LARGEST_MOMENT)];
+  const limit = whole(notAfter, 'notAfter', LARGEST_MOMENT);
+  return { flags: isOn(options, 'checkOwn') ? CHECK_OWN : 0, not_after: limit };
+}
+
+function isText(given) {
+  return typeof given === 'string' || given instanceof Uint8Array;
 }
 
 function textOf(given, name) {
-  if (typeof given === 'string' || given instanceof Uint8Array) return given;
+  if (isText(given)) return given;
   throw wrongType(name, 'a string or a Uint8Array');
 }
 
@@ -146,7 +150,7 @@ function whole(given, name, largest) {
   } else if (typeof given !== 'number') {
     throw wrongType(name, 'a number or a bigint');
   } else if (Number.isSafeInteger(given) && given >= 0) {
-    return BigInt(given);
+    return given;
   }
   throw new RangeError(`${name} must be a whole number from 0, and a bigint where it passes 2^53`);
 }
@@ -164,7 +168,7 @@ const WITH_MEMBERS = /^\[object (?:Object|Array|Module)\]$/;
 
 // Language maps: an object as `export` answers it, or their text.
 function mapsOf(given, name) {
-  if (typeof given === 'string' || given instanceof Uint8Array) return given;
+  if (isText(given)) return given;
   // (a number is refused: of NaN JSON would make null, which is no label)
   const numbered = (_, it) => (typeof it === 'number' ? 0 : it);
   if (WITH_MEMBERS.test(Object.prototype.toString.call(given))) return JSON.stringify(given, numbered);
@@ -304,6 +308,13 @@ class Exports {
   }
 }
 
+// A text in the module's memory.
+class Kept {
+  constructor(at, length) {
+    Object.assign(this, { at, length });
+  }
+}
+
 // The calls of the module, and the room that is kept for them.
 class Module {
   #exports;
@@ -359,37 +370,39 @@ class Module {
     return { length, offset, row, count, number: view.getUint32(32, true), given: view.getUint32(36, true) };
   }
 
-  // The words of a call with its texts in the module's memory, from `at`, and where these end.
-  #placed(words, at) {
+  // The words of a call before those of its answer, of which `given` has each by its name in the header, with its texts
+  // in the module's memory from `at`; and where these end.
+  #placed(name, given, at) {
     const placed = [];
-    for (const word of words) {
-      if (typeof word === 'string' || word instanceof Uint8Array) {
-        const count = this.#put(word, at);
+    for (const [kind, it] of CALLS[name].parameters) {
+      if (kind === 'room' || kind === 'sw_told') break;
+      if (kind !== 'text') {
+        placed.push(NUMBERS[kind](given[it]));
+      } else if (given[it] instanceof Kept) {
+        placed.push(given[it].at, given[it].length);
+      } else {
+        const count = this.#put(textOf(given[it], it), at);
         placed.push(BigInt(at), BigInt(count));
         at += count;
-      } else {
-        placed.push(word);
       }
     }
     return [placed, at];
   }
 
-  #texts(words) {
-    return words.filter((it) => typeof it === 'string' || it instanceof Uint8Array);
+  #mostOf(given) {
+    return Object.values(given).filter(isText).reduce((sum, it) => sum + mostBytes(it), 0);
   }
 
-  // Calls what answers nothing but its status. `words` are numbers, BigInts and texts, in the order of the header.
-  done(name, ...words) {
-    const most = this.#texts(words).reduce((sum, it) => sum + mostBytes(it), 0);
-    this.#within(most, (at) => this.#call(name, this.#placed(words, at)[0]));
+  // Calls what answers nothing but its status. `given` has what the call takes, by the names of the header.
+  done(name, given) {
+    this.#within(this.#mostOf(given), (at) => this.#call(name, this.#placed(name, given, at)[0]));
   }
 
   // Calls what answers a text, in the room that is kept or in as much as the answer needs. Returns what it reports, and
   // what `read` makes of the bytes.
-  #asked(name, words, read) {
-    const most = this.#texts(words).reduce((sum, it) => sum + mostBytes(it), 0);
-    return this.#within(most + ROOM / 2, (at, bytes) => {
-      const [placed, end] = this.#placed(words, at);
+  #asked(name, given, read) {
+    return this.#within(this.#mostOf(given) + ROOM / 2, (at, bytes) => {
+      const [placed, end] = this.#placed(name, given, at);
       const room = at + bytes - end;
       const told = this.#call(name, [...placed, BigInt(end), BigInt(room)]);
       if (told.length <= room) return [told, read(this.#exports.bytes(end, told.length))];
@@ -401,14 +414,14 @@ class Module {
   }
 
   // The text that a call answers; null where it found nothing.
-  text(name, ...words) {
-    const [told, text] = this.#asked(name, words, (bytes) => DECODER.decode(bytes));
+  text(name, given) {
+    const [told, text] = this.#asked(name, given, (bytes) => DECODER.decode(bytes));
     return told.status === NOTHING ? null : text;
   }
 
   // A copy of the bytes that a call answers.
-  bytes(name, ...words) {
-    return this.#asked(name, words, (bytes) => bytes.slice())[1];
+  bytes(name, given) {
+    return this.#asked(name, given, (bytes) => bytes.slice())[1];
   }
 
   // What a call says of a number of a refusal, or null.
@@ -444,14 +457,14 @@ class Module {
     return BigInt(at);
   }
 
-  // Keeps a copy of a document, and returns the words by which a call is passed it.
+  // Keeps a copy of a document, which a call takes as it takes a text.
   keep(text) {
     const bytes = bytesIn(text);
     const at = this.#allocated(Math.max(bytes.length, 1));
-    return [BigInt(at), BigInt(this.#put(bytes, at))];
+    return new Kept(BigInt(at), BigInt(this.#put(bytes, at)));
   }
 
-  drop([at]) {
+  drop({ at }) {
     this.#exports.release(at);
   }
 
@@ -470,22 +483,24 @@ function refusedAsName(calls, refused, text) {
   return refused.number === NOT_JSON && mayBeName(text) ? refusalOf(calls, refused, NO_NAME) : refused;
 }
 
+// What a lookup of a site is asked beside the message.
+function lookupOf(field, options) {
+  const given = optionsOf(options);
+  return { offer: offerOf(given), flags: lookupFlagsOf(given), field: fieldOf(field), dflt: defaultOf(given) };
+}
+
 // Makes the call that ends with this name, of a site or of a document, and returns the text that it answers, or null.
 const ask = Symbol('ask');
 
 // What a site and a document are asked alike.
 class Asked {
   lookup(id, field, options) {
-    const given = optionsOf(options);
-    const words = [offerOf(given), lookupFlagsOf(given), textOf(id, 'id'), fieldOf(field), defaultOf(given)];
-    const line = this[ask]('lookup', ...words);
+    const line = this[ask]('lookup', { id, ...lookupOf(field, options) });
     return line === null ? null : labelOf(line);
   }
 
   text(id, field, options) {
-    const given = optionsOf(options);
-    const words = [lookupFlagsOf(given), textOf(id, 'id'), fieldOf(field), defaultOf(given), placeOf(given)];
-    return this[ask]('text', offerOf(given), ...words);
+    return this[ask]('text', { id, ...lookupOf(field, options), place: placeOf(optionsOf(options)) });
   }
 
   texts(id, field, options) {
@@ -494,7 +509,7 @@ class Asked {
 
   filter(id, field, options) {
     const given = optionsOf(options);
-    const lines = this[ask]('filter', offerOf(given), flagsOf(given), textOf(id, 'id'), fieldOf(field));
+    const lines = this[ask]('filter', { offer: offerOf(given), flags: flagsOf(given), id, field: fieldOf(field) });
     return lines === null ? [] : linesIn(lines).map(choiceOf);
   }
 
@@ -516,16 +531,16 @@ function writtenSiteClass(calls) {
       forgotten.register(this, this.#kept, this);
       try {
         // (what is no document is refused by any question)
-        this[ask]('filter', '', 0, 'm', '*');
+        this[ask]('filter', { offer: '', flags: 0, id: 'm', field: '*' });
       } catch (refused) {
         this.close();
         throw refusedAsName(calls, refused, text);
       }
     }
 
-    [ask](name, ...words) {
+    [ask](name, given) {
       if (this.#kept === null) throw new Error('the site is closed');
-      return calls.text(`sw_text_${name}`, ...this.#kept, ...words);
+      return calls.text(`sw_text_${name}`, { text: this.#kept, ...given });
     }
 
     close() {
@@ -548,8 +563,16 @@ function siteClass(calls) {
       forgotten.register(this, this.#handle);
     }
 
-    [ask](name, ...words) {
-      return calls.text(`sw_site_${name}`, this.#handle, ...words);
+    [ask](name, given) {
+      return calls.text(`sw_site_${name}`, { site: this.#handle, ...given });
+    }
+
+    #edit(name, given) {
+      calls.done(`sw_site_${name}`, { site: this.#handle, ...given });
+    }
+
+    #maps(name, given) {
+      return JSON.parse(this[ask](name, given) ?? '{}');
     }
 
     // (a class that extends this one makes its own; by itself, as what `map` is given, `open` makes a Site)
@@ -561,14 +584,14 @@ function siteClass(calls) {
 
     static new(name) {
       const site = new (this ?? Site)();
-      calls.done('sw_site_new', textOf(name, 'name'), site.#handle);
+      site.#edit('new', { name });
       return site;
     }
 
     reload(document) {
       const text = textOf(document, 'document');
       try {
-        calls.done('sw_site_open', text, this.#handle);
+        this.#edit('open', { text });
       } catch (refused) {
         throw refusedAsName(calls, refused, text);
       }
@@ -576,7 +599,7 @@ function siteClass(calls) {
 
     share() {
       const other = new Site();
-      calls.done('sw_site_share', this.#handle, other.#handle);
+      this.#edit('share', { other: other.#handle });
       return other;
     }
 
@@ -585,83 +608,74 @@ function siteClass(calls) {
     }
 
     bundle(field, options) {
-      const given = optionsOf(options);
-      const words = [offerOf(given), lookupFlagsOf(given), fieldOf(field), defaultOf(given)];
-      const document = this[ask]('bundle', ...words);
-      return document === null ? {} : JSON.parse(document);
+      return this.#maps('bundle', lookupOf(field, options));
     }
 
     put(id, lang, text, options) {
-      const now = nowOf(optionsOf(options));
-      const words = [textOf(id, 'id'), textOf(lang, 'lang'), textOf(text, 'text')];
-      calls.done('sw_site_put', this.#handle, now, ...words);
+      this.#edit('put', { now: nowOf(optionsOf(options)), id, lang, text });
     }
 
     delete(id, lang, options) {
-      const now = nowOf(optionsOf(options));
-      calls.done('sw_site_delete', this.#handle, now, textOf(id, 'id'), textOf(lang, 'lang'));
+      this.#edit('delete', { now: nowOf(optionsOf(options)), id, lang });
     }
 
     importMaps(maps, options) {
-      calls.done('sw_site_import', this.#handle, nowOf(optionsOf(options)), mapsOf(maps, 'maps'));
+      this.#edit('import', { now: nowOf(optionsOf(options)), maps: mapsOf(maps, 'maps') });
     }
 
     update(before, after, options) {
-      const words = [mapsOf(before, 'before'), mapsOf(after, 'after')];
-      calls.done('sw_site_update', this.#handle, nowOf(optionsOf(options)), ...words);
+      const maps = { old_maps: mapsOf(before, 'before'), new_maps: mapsOf(after, 'after') };
+      this.#edit('update', { now: nowOf(optionsOf(options)), ...maps });
     }
 
     take(delta, options) {
-      const [flags, limit] = checksOf(optionsOf(options));
-      calls.done('sw_site_take', this.#handle, flags, textOf(delta, 'delta'), limit);
+      this.#edit('take', { delta, ...checksOf(optionsOf(options)) });
     }
 
     merge(other, options) {
-      const handle = Site.#handleOf(other);
-      const [flags, limit] = checksOf(optionsOf(options));
+      const given = { other: Site.#handleOf(other), ...checksOf(optionsOf(options)) };
       // (a call may not be given one handle twice, and a site has what it holds)
       if (other === this) this.status();
-      else calls.done('sw_site_merge', this.#handle, flags, handle, limit);
+      else this.#edit('merge', given);
     }
 
     write() {
-      return calls.text('sw_site_write', this.#handle);
+      return this[ask]('write');
     }
 
     toBytes() {
-      return calls.bytes('sw_site_write', this.#handle);
+      return calls.bytes('sw_site_write', { site: this.#handle });
     }
 
     export() {
-      return JSON.parse(calls.text('sw_site_export', this.#handle));
+      return this.#maps('export');
     }
 
     summary(options) {
-      return calls.text('sw_site_summary', this.#handle, isOn(optionsOf(options), 'labels') ? LABELS : 0);
+      return this[ask]('summary', { flags: isOn(optionsOf(options), 'labels') ? LABELS : 0 });
     }
 
     deltaFor(summary) {
-      return calls.text('sw_site_delta', this.#handle, textOf(summary, 'summary'));
+      return this[ask]('delta', { summary });
     }
 
     status() {
-      return statusOf(calls.text('sw_site_status', this.#handle));
+      return statusOf(this[ask]('status'));
     }
 
     missing(lang) {
-      return JSON.parse(calls.text('sw_site_missing', this.#handle, textOf(lang, 'lang')) ?? '{}');
+      return this.#maps('missing', { lang });
     }
 
     outdated(lang, source) {
-      const words = [textOf(lang, 'lang'), textOf(source, 'source')];
-      return JSON.parse(calls.text('sw_site_outdated', this.#handle, ...words) ?? '{}');
+      return this.#maps('outdated', { lang, source });
     }
 
     changes(after) {
-      const handle = Site.#handleOf(after);
+      const other = Site.#handleOf(after);
       // (as in `merge`)
       if (after === this) return this.status() && [];
-      const lines = calls.text('sw_site_changes', this.#handle, handle);
+      const lines = this[ask]('changes', { other });
       return lines === null ? [] : linesIn(lines).map(changeOf);
     }
 
@@ -729,10 +743,12 @@ function over(calls) {
     version: calls.version(),
     pick(field, tags, options) {
       const given = optionsOf(options);
-      return calls.text('sw_pick', lookupFlagsOf(given), fieldOf(field), linesOf(tags), defaultOf(given));
+      const asked = { flags: lookupFlagsOf(given), field: fieldOf(field), tags: linesOf(tags), dflt: defaultOf(given) };
+      return calls.text('sw_pick', asked);
     },
     filter(field, tags, options) {
-      const lines = calls.text('sw_filter', flagsOf(optionsOf(options)), fieldOf(field), linesOf(tags));
+      const given = { flags: flagsOf(optionsOf(options)), field: fieldOf(field), tags: linesOf(tags) };
+      const lines = calls.text('sw_filter', given);
       return lines === null ? [] : linesIn(lines).map(pickedOf);
     },
     refusal: (number) => (Number.isInteger(number) && number >>> 0 === number ? calls.meaning(number) : null),

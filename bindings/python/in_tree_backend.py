@@ -17,6 +17,7 @@ import hashlib
 import os
 import re
 import subprocess
+import sys
 import zipfile
 
 HERE = os.path.dirname(os.path.abspath(__file__))
@@ -41,6 +42,15 @@ def version():
     return re.search(rb'^__version__ = "(.*)"$', read("src/silkwaram/__init__.py"), re.M)[
         1
     ].decode()
+
+
+def make_calls():
+    """Makes the table of the calls, if this is in the repository: elsewhere it has to be here."""
+    tool, made = os.path.join(HERE, "../../tools/calls"), os.path.join(HERE, f"src/{NAME}/_calls.py")
+    if os.path.exists(tool):
+        subprocess.run([sys.executable, tool, "python"], check=True)
+    elif not os.path.exists(made):
+        raise FileNotFoundError(f"{made} is not here: `make library` makes it in the repository")
 
 
 def licences(settings):
@@ -116,6 +126,7 @@ def record_line(path, content):
 
 def build_wheel(wheel_directory, config_settings=None, metadata_directory=None):
     settings, info = config_settings or {}, f"{NAME}-{version()}.dist-info"
+    make_calls()
     files = {f"{NAME}/{it}": read(f"src/{NAME}/{it}") for it in modules()}
     browser = settings.get("browser")
     if browser:

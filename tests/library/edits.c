@@ -39,8 +39,10 @@ static void made_and_edited(void) {
   DONE(sw_site_delete(&site, 6, BYTES(T("@")), BYTES(T("e n")), &told), refused(10));
   DONE(sw_site_delete(&site, 6, BYTES(m), BYTES(T("e n")), &told), refused_at(3, 0));
   HAS(&site, ENGLISH);
-  DONE(sw_site_delete(&site, 6, BYTES(m), BYTES(en), &told), done);
-  ROW(ROOM, sw_site_status(&site, out, ROOM, &told), answers(SW_FOUND, 0, "site a cells 1 labels 0 last 6 a 0\n"));
+  /* (a time of more than 32 bits) */
+  DONE(sw_site_delete(&site, 1099511627776, BYTES(m), BYTES(en), &told), done);
+  ROW(ROOM, sw_site_status(&site, out, ROOM, &told),
+      answers(SW_FOUND, 0, "site a cells 1 labels 0 last 1099511627776 a 0\n"));
   sw_site_free(&site);
 }
 

@@ -1,6 +1,7 @@
 #!/usr/bin/env bash
 # Compiles the headers under all warnings, each alone, as C99 and C11, and as C++98 and C++17, where
-# the calls have the names of C. Needed: a C compiler (CC, or cc), and one of C++ (CXX, or c++).
+# the calls have the names of C. Needed: a C compiler (CC, or cc), and one of C++ (CXX, or c++),
+# with Python.
 cd "$(dirname "$0")/../.." || exit 1
 . tests/lib/tap.sh
 . tests/library/library.sh
@@ -28,7 +29,7 @@ headers_as() { # a compiler, its name of the language, and standards
 have_names_of_c() { # each call, where C++ refers to it
     {
         printf '#include "%s"\n' include/*.h
-        sed -n 's/^[a-z0-9_]* \(sw_[a-z_]*\)(.*/auto *of_\1 = \1;/p' include/*.h
+        for it in include/*.h; do tools/calls names "$it"; done | sed 's/.*/auto *of_& = &;/'
     } > "$room/calls.cpp"
     "$cxx" -std=c++17 -I. -S "$room/calls.cpp" -o "$room/calls.s" &&
         grep -q sw_version "$room/calls.s" && ! grep '_Z[0-9]*sw_' "$room/calls.s"
@@ -36,9 +37,9 @@ have_names_of_c() { # each call, where C++ refers to it
 
 headers_as "$cc" c c99 c11
 headers_as "$cxx" c++ c++98 c++17
-if is_there "$cxx"; then
+if is_there "$cxx" && is_there python3; then
     check 'the names of the calls in C++' have_names_of_c
 else
-    lacks 'the names of the calls in C++' "$cxx"
+    lacks 'the names of the calls in C++' "$cxx or python3"
 fi
 end

@@ -4,6 +4,7 @@
  * held. */
 #include "questions.h"
 #include "refusing.h"
+#include <calls.h>
 
 #define PARIS                                                                                                        \
   "{\"cells\":[[\"m\",\"en\",6,\"paris\",0,[\"Hello\",\"Hi\"]],[\"m\",\"zh-hant-cn-x-private1-private2\",5,\"paris\"," \
@@ -39,32 +40,45 @@ typedef struct {
 
 typedef void act(trial *);
 
-#define ACT(name, ...) \
-  static void name(trial *it) { it->status = __VA_ARGS__; }
+/* Whether a call leaves the site, changes it, joins cells to it, in part where memory ends, or takes no memory. */
+enum kind { ASKS, EDITS, JOINS, FIXED };
+
+typedef struct {
+  const char *name;
+  act *call;
+  enum kind kind;
+} refusable;
+
+#define CASE(name, kind, ...)                                       \
+  static void name##_acts(trial *it) { it->status = __VA_ARGS__; } \
+  static const refusable name##_case = {#name, name##_acts, kind};
+#define ACT(name, kind, ...) CASE(name, kind, name(__VA_ARGS__))
 /* Where a call reports that has no answer, and one that has. */
 #define TOLD &it->told
 #define ANSWER it->out, ROOM, TOLD
 
-ACT(makes, sw_site_new(BYTES(T("lyon")), &it->site, TOLD))
-ACT(puts_long, sw_site_put(&it->site, 9, BYTES(T(LONG_ID)), BYTES(T(LONG_TAG)), BYTES(T("some text")), TOLD))
-ACT(puts_held, sw_site_put(&it->site, 9, BYTES(T("m")), BYTES(T("en")), BYTES(T("Good day")), TOLD))
-ACT(deletes, sw_site_delete(&it->site, 9, BYTES(T(LONG_ID)), BYTES(T("en")), TOLD))
-ACT(imports, sw_site_import(&it->site, 9, BYTES(T(MAPS)), TOLD))
-ACT(updates, sw_site_update(&it->site, 9, BYTES(T("{\"m\":{\"en\":[\"Hello\",\"Hi\"]}}")), BYTES(T(MAPS)), TOLD))
-ACT(takes, sw_site_take(&it->site, SW_CHECK_OWN, BYTES(T(DELTA)), 100, TOLD))
-ACT(merges, sw_site_merge(&it->site, SW_CHECK_OWN, &it->other, 100, TOLD))
-ACT(writes, sw_site_write(&it->site, ANSWER))
-ACT(exports, sw_site_export(&it->site, ANSWER))
-ACT(sums_up, sw_site_summary(&it->site, SW_LABELS, ANSWER))
-ACT(reports, sw_site_status(&it->site, ANSWER))
-ACT(misses, sw_site_missing(&it->site, BYTES(T("fr")), ANSWER))
-ACT(dates, sw_site_outdated(&it->site, BYTES(T(LONG_TAG)), BYTES(T("en")), ANSWER))
-ACT(answers_summary, sw_site_delta(&it->site, BYTES(T(SUMMARY)), ANSWER))
-ACT(compares, sw_site_changes(&it->site, &it->other, ANSWER))
-ACT(filters, sw_filter(0, BYTES(T("da, " LONG_TAG ";q=0.8")), BYTES(T("da\n" LONG_TAG "-more\n")), ANSWER))
-ACT(picks, sw_pick(0, BYTES(T("da, " LONG_TAG ";q=0.8")), BYTES(T("en\n" LONG_TAG)), BYTES(T(LONG_TAG)), ANSWER))
-ACT(widens, sw_pick(SW_WIDEN, BYTES(T("de, zh")), BYTES(T("en\n" LONG_TAG)), BYTES(T("en")), ANSWER))
-ACT(opens, sw_site_open(BYTES(T(OSLO)), &it->site, TOLD))
+ACT(sw_site_new, EDITS, BYTES(T("lyon")), &it->site, TOLD)
+CASE(puts_long, EDITS, sw_site_put(&it->site, 9, BYTES(T(LONG_ID)), BYTES(T(LONG_TAG)), BYTES(T("some text")), TOLD))
+ACT(sw_site_put, EDITS, &it->site, 9, BYTES(T("m")), BYTES(T("en")), BYTES(T("Good day")), TOLD)
+ACT(sw_site_delete, EDITS, &it->site, 9, BYTES(T(LONG_ID)), BYTES(T("en")), TOLD)
+ACT(sw_site_import, EDITS, &it->site, 9, BYTES(T(MAPS)), TOLD)
+ACT(sw_site_update, EDITS, &it->site, 9, BYTES(T("{\"m\":{\"en\":[\"Hello\",\"Hi\"]}}")), BYTES(T(MAPS)), TOLD)
+ACT(sw_site_take, JOINS, &it->site, SW_CHECK_OWN, BYTES(T(DELTA)), 100, TOLD)
+ACT(sw_site_merge, JOINS, &it->site, SW_CHECK_OWN, &it->other, 100, TOLD)
+ACT(sw_site_write, ASKS, &it->site, ANSWER)
+ACT(sw_site_export, ASKS, &it->site, ANSWER)
+ACT(sw_site_summary, ASKS, &it->site, SW_LABELS, ANSWER)
+ACT(sw_site_status, ASKS, &it->site, ANSWER)
+ACT(sw_site_missing, ASKS, &it->site, BYTES(T("fr")), ANSWER)
+ACT(sw_site_outdated, ASKS, &it->site, BYTES(T(LONG_TAG)), BYTES(T("en")), ANSWER)
+ACT(sw_site_delta, ASKS, &it->site, BYTES(T(SUMMARY)), ANSWER)
+ACT(sw_site_changes, ASKS, &it->site, &it->other, ANSWER)
+ACT(sw_filter, ASKS, 0, BYTES(T("da, " LONG_TAG ";q=0.8")), BYTES(T("da\n" LONG_TAG "-more\n")), ANSWER)
+ACT(sw_refusal, FIXED, 18, ANSWER)
+ACT(sw_refusal_text, FIXED, 18, ANSWER)
+ACT(sw_pick, ASKS, 0, BYTES(T("da, " LONG_TAG ";q=0.8")), BYTES(T("en\n" LONG_TAG)), BYTES(T(LONG_TAG)), ANSWER)
+CASE(widens, ASKS, sw_pick(SW_WIDEN, BYTES(T("de, zh")), BYTES(T("en\n" LONG_TAG)), BYTES(T("en")), ANSWER))
+ACT(sw_site_open, EDITS, BYTES(T(OSLO)), &it->site, TOLD)
 
 /* A handle that is not open stays so. (No status is -1.) */
 static void opens_first(trial *it) {
@@ -84,52 +98,19 @@ static void shares(trial *it) {
 #define LOOKED_UP BYTES(T("*;q=0.5, " LONG_TAG)), 0, BYTES(T("m")), BYTES(T("da, " LONG_TAG)), BYTES(T(LONG_TAG "-more"))
 #define TEXT_OF NULL, 0, SW_EXTENDED, BYTES(T("m")), BYTES(T("*-de, zh-*-CN-x-private1-private2, en")), BYTES(T("en")), 0
 #define FILTERED NULL, 0, 0, BYTES(T("m")), BYTES(T("en;q=0.5, zh-hant-cn-x-private1"))
-ACT(looks_up, sw_site_lookup(&it->site, LOOKED_UP, ANSWER))
-ACT(finds_text, sw_site_text(&it->site, TEXT_OF, ANSWER))
-ACT(filters_labels, sw_site_filter(&it->site, FILTERED, ANSWER))
-ACT(bundles, sw_site_bundle(&it->site, NULL, 0, SW_LENIENT, BYTES(T("en_US, " LONG_TAG)), BYTES(T("de")), ANSWER))
-ACT(looks_up_in_text, sw_text_lookup(BYTES(T(PARIS)), LOOKED_UP, ANSWER))
-ACT(finds_text_in_text, sw_text_text(BYTES(T(PARIS)), TEXT_OF, ANSWER))
-ACT(filters_text, sw_text_filter(BYTES(T(PARIS)), FILTERED, ANSWER))
+ACT(sw_site_lookup, ASKS, &it->site, LOOKED_UP, ANSWER)
+ACT(sw_site_text, ASKS, &it->site, TEXT_OF, ANSWER)
+ACT(sw_site_filter, ASKS, &it->site, FILTERED, ANSWER)
+ACT(sw_site_bundle, ASKS, &it->site, NULL, 0, SW_LENIENT, BYTES(T("en_US, " LONG_TAG)), BYTES(T("de")), ANSWER)
+ACT(sw_text_lookup, ASKS, BYTES(T(PARIS)), LOOKED_UP, ANSWER)
+ACT(sw_text_text, ASKS, BYTES(T(PARIS)), TEXT_OF, ANSWER)
+ACT(sw_text_filter, ASKS, BYTES(T(PARIS)), FILTERED, ANSWER)
 
-/* Whether a call leaves the site, changes it, or joins cells to it, in part where memory ends. */
-enum kind { ASKS, EDITS, JOINS };
+static const refusable opens_first_case = {"sw_site_open, first", opens_first, ASKS};
+static const refusable sw_site_share_case = {"sw_site_share", shares, ASKS};
 
-static const struct {
-  const char *name;
-  act *call;
-  enum kind kind;
-} CALLS[] = {
-    {"sw_site_new", makes, EDITS},
-    {"sw_site_put, new", puts_long, EDITS},
-    {"sw_site_put", puts_held, EDITS},
-    {"sw_site_delete", deletes, EDITS},
-    {"sw_site_import", imports, EDITS},
-    {"sw_site_update", updates, EDITS},
-    {"sw_site_take", takes, JOINS},
-    {"sw_site_merge", merges, JOINS},
-    {"sw_site_write", writes, ASKS},
-    {"sw_site_export", exports, ASKS},
-    {"sw_site_summary", sums_up, ASKS},
-    {"sw_site_status", reports, ASKS},
-    {"sw_site_missing", misses, ASKS},
-    {"sw_site_outdated", dates, ASKS},
-    {"sw_site_delta", answers_summary, ASKS},
-    {"sw_site_changes", compares, ASKS},
-    {"sw_filter", filters, ASKS},
-    {"sw_pick", picks, ASKS},
-    {"sw_pick, widened", widens, ASKS},
-    {"sw_site_open, open", opens, EDITS},
-    {"sw_site_open, closed", opens_first, ASKS},
-    {"sw_site_share", shares, ASKS},
-    {"sw_site_lookup", looks_up, ASKS},
-    {"sw_site_text", finds_text, ASKS},
-    {"sw_site_filter", filters_labels, ASKS},
-    {"sw_site_bundle", bundles, ASKS},
-    {"sw_text_lookup", looks_up_in_text, ASKS},
-    {"sw_text_text", finds_text_in_text, ASKS},
-    {"sw_text_filter", filters_text, ASKS},
-};
+#define ROW(name) &name##_case,
+static const refusable *const CASES[] = {EACH_CALL(ROW) ROW(puts_long) ROW(widens) ROW(opens_first)};
 
 /* Whether the site is shared, so that an edit is made apart: in a copy, or in the state before. */
 enum { ALONE, SHARED, SPARED, WAYS };
@@ -233,37 +214,37 @@ static unsigned refuse_each(unsigned of, int way) {
   trial ample, it;
   begin(&ample, way);
   document paris = written(&ample.site), oslo = written(&ample.other);
-  try(CALLS[of].call, &ample, ULONG_MAX, 0);
+  try(CASES[of]->call, &ample, ULONG_MAX, 0);
   unsigned long count = allocations;
   document wanted = written(&ample.site);
-  unsigned wrong = ample.status != SW_FOUND || equal(&wanted, &paris) != (CALLS[of].kind == ASKS);
+  unsigned wrong = ample.status != SW_FOUND || equal(&wanted, &paris) != (CASES[of]->kind == ASKS || CASES[of]->kind == FIXED);
   for (unsigned long n = 1; n <= count; n++)
     for (int all = 0; all < 2; all++) {
       begin(&it, way);
-      try(CALLS[of].call, &it, n, all ? ULONG_MAX : n);
+      try(CASES[of]->call, &it, n, all ? ULONG_MAX : n);
       int32_t status = it.status;
       sw_told none = {.number = 26};
       document now = written(&it.site);
       int is_well = others_are_kept(&it, &paris, &oslo);
-      int may_join = CALLS[of].kind == JOINS && way == ALONE;
+      int may_join = CASES[of]->kind == JOINS && way == ALONE;
       if (status == SW_NO_MEMORY)
         is_well = is_well && same_told(&it.told, &none) && is_untouched(it.out, ROOM) &&
                   (may_join ? is_between(&now, &paris, &wanted) : equal(&now, &paris));
       else
         is_well = is_well && same(&it, &ample) && equal(&now, &wanted);
-      try(CALLS[of].call, &it, ULONG_MAX, 0);
+      try(CASES[of]->call, &it, ULONG_MAX, 0);
       now = written(&it.site);
       /* (an edit that was made already takes a further stamp, so a repeat counts where it was refused) */
       if (it.status != SW_FOUND || (status == SW_NO_MEMORY && !equal(&now, &wanted))) is_well = 0;
       if (!is_well) {
         wrong++;
-        fprintf(stderr, "refused: %s%s: allocation %lu%s: status %d\n", CALLS[of].name, WAY_NAMES[way], n,
+        fprintf(stderr, "refused: %s%s: allocation %lu%s: status %d\n", CASES[of]->name, WAY_NAMES[way], n,
                 all ? " and on" : "", status);
       }
       end(&it);
     }
-  if (count == 0) wrong++;
-  if (wrong) fprintf(stderr, "refused: %s: status %d, %lu allocations\n", CALLS[of].name, ample.status, count);
+  if ((count == 0) != (CASES[of]->kind == FIXED)) wrong++;
+  if (wrong) fprintf(stderr, "refused: %s: status %d, %lu allocations\n", CASES[of]->name, ample.status, count);
   all_allocations += count;
   end(&ample);
   return wrong;
@@ -271,9 +252,9 @@ static unsigned refuse_each(unsigned of, int way) {
 
 int main(void) {
   unsigned wrong = 0;
-  for (unsigned of = 0; of < sizeof CALLS / sizeof *CALLS; of++)
+  for (unsigned of = 0; of < sizeof CASES / sizeof *CASES; of++)
     for (int way = 0; way < WAYS; way++) wrong += refuse_each(of, way);
   printf("refused: %lu allocations of %zu calls, each alone and with all after it; %u wrong\n", all_allocations,
-         sizeof CALLS / sizeof *CALLS, wrong);
+         sizeof CASES / sizeof *CASES, wrong);
   return wrong != 0;
 }

@@ -1,6 +1,7 @@
 /* Measures the stack of each call, with what a thread needs for itself. Then it makes each call once more, on a thread
  * that has no more than its header allows: under that stack is a page that nothing can touch, so a call that takes more
  * ends this program. */
+#include <calls.h>
 #include <pthread.h>
 #include <silkwaram_command.h>
 #include <sys/mman.h>
@@ -20,52 +21,45 @@ enum { ALLOWED = 128 * 1024, COMMAND_ALLOWED = 160 * 1024, MEASURED = 4 * ALLOWE
 #define DELTA                                                                                                      \
   "{\"cells\":[[\"" LONG_ID "\",\"nb\",7,\"oslo\",0,[\"x\"]]],\"kind\":\"delta\",\"to\":" \
   "\"paris\",\"version\":2}\n"
-#define MAPS "{\"m\":{\"en\":[\"one\",\"two\"],\"fr-x-a-private-tag\":\"Bonjour\"}}"
+#define MAPS "{\"m\":{\"de\":\"Tag\",\"en\":[\"one\",\"two\"],\"fr-x-a-private-tag\":\"Bonjour\"}}"
+#define NEW_MAPS "{\"m\":{\"en\":\"Good day\",\"fr-x-a-private-tag\":\"Bonjour\"}}"
 #define LONG_FIELD "zh-Hant-CN-x-private1-private2;q=0.8, de-*-DE, *;q=0.1, en_US, en-GB;q=0.7, "
 
 static sw_site site, other;
 static text deep;
 
-static void nothing(void) {}
+static void call_nothing(void) {}
 
 /* Ends the program where a call did not come to its end: its stack would say nothing. */
 static void found(int32_t status) {
   if (status != SW_FOUND) exit(4);
 }
 
+#define RUNS(name, ...)         \
+  static void call_##name(void) { \
+    sw_told told;                 \
+    __VA_ARGS__;                  \
+  }
 /* A call that takes no more than `told`, and one that takes a buffer too. */
-#define MAKES(name, ...)  \
-  static void name(void) { \
-    sw_told told;          \
-    __VA_ARGS__;           \
-  }
-#define ASKS(name, ...)    \
-  static void name(void) { \
-    uint8_t out[ROOM];     \
-    sw_told told;          \
-    __VA_ARGS__;           \
-  }
-#define REPORT(name, ...) ASKS(name##_call, found(sw_site_##name(__VA_ARGS__, out, ROOM, &told)))
+#define MAKES(name, ...) RUNS(name, found(name(__VA_ARGS__, &told)))
+#define ASKS(name, ...) RUNS(name, uint8_t out[ROOM]; found(name(__VA_ARGS__, out, ROOM, &told)))
 
-ASKS(pick, found(sw_pick(SW_LENIENT, BYTES(T(LONG_FIELD "en")), BYTES(T("fr\nen-x-a\nEN")), BYTES(T("fr")), out, ROOM,
-                         &told)))
-ASKS(filter_tags,
-     found(sw_filter(SW_LENIENT, BYTES(T(LONG_FIELD "en")), BYTES(T("fr\nen-x-a\nEN")), out, ROOM, &told)))
-ASKS(refusal, found(sw_refusal(18, out, ROOM, &told)))
-ASKS(refusal_text, found(sw_refusal_text(18, out, ROOM, &told)))
+ASKS(sw_pick, SW_LENIENT, BYTES(T(LONG_FIELD "en")), BYTES(T("fr\nen-x-a\nEN")), BYTES(T("fr")))
+ASKS(sw_filter, SW_LENIENT, BYTES(T(LONG_FIELD "en")), BYTES(T("fr\nen-x-a\nEN")))
+ASKS(sw_refusal, 18)
+ASKS(sw_refusal_text, 18)
 
-MAKES(open_version_1, found(sw_site_open(BYTES(T(PARIS_1)), &site, &told)))
-MAKES(open_reversed, found(sw_site_open(BYTES(T(REVERSED)), &site, &told)))
-MAKES(open_site, found(sw_site_open(BYTES(T(PARIS)), &site, &told)))
-MAKES(new_site, found(sw_site_new(BYTES(T("oslo")), &other, &told)))
+MAKES(sw_site_open, BYTES(T(PARIS)), &site)
+RUNS(open_version_1, found(sw_site_open(BYTES(T(PARIS_1)), &site, &told)))
+RUNS(open_reversed, found(sw_site_open(BYTES(T(REVERSED)), &site, &told)))
+MAKES(sw_site_new, BYTES(T("oslo")), &other)
 
 /* (the handle is the only one of its site) */
-MAKES(put, found(sw_site_put(&site, 9, BYTES(T(LONG_ID)), BYTES(T("zh-Hant-CN-x-private1")), BYTES(T("some text")),
-                             &told)))
-MAKES(delete, found(sw_site_delete(&site, 9, BYTES(T(LONG_ID)), BYTES(T("zh-Hant-CN-x-private1")), &told)))
+MAKES(sw_site_put, &site, 9, BYTES(T(LONG_ID)), BYTES(T("zh-Hant-CN-x-private1")), BYTES(T("some text")))
+MAKES(sw_site_delete, &site, 9, BYTES(T(LONG_ID)), BYTES(T("zh-Hant-CN-x-private1")))
 
 /* (the handle is not) */
-static void put_shared(void) {
+static void call_put_shared(void) {
   sw_told told;
   sw_site share = {0};
   found(sw_site_share(&site, &share));
@@ -73,43 +67,42 @@ static void put_shared(void) {
   sw_site_free(&share);
 }
 
-MAKES(import, found(sw_site_import(&site, 9, BYTES(T(MAPS)), &told)))
-MAKES(update, found(sw_site_update(&site, 10, BYTES(T(MAPS)), BYTES(T("{\"m\":{\"en\":\"Good day\"}}")), &told)))
-MAKES(take, found(sw_site_take(&site, SW_CHECK_OWN, BYTES(T(DELTA)), 100, &told)))
-MAKES(merge, found(sw_site_merge(&site, SW_CHECK_OWN, &other, 100, &told)))
+MAKES(sw_site_import, &site, 9, BYTES(T(MAPS)))
+MAKES(sw_site_update, &site, 10, BYTES(T(MAPS)), BYTES(T(NEW_MAPS)))
+MAKES(sw_site_take, &site, SW_CHECK_OWN, BYTES(T(DELTA)), 100)
+MAKES(sw_site_merge, &site, SW_CHECK_OWN, &other, 100)
 
-REPORT(write, &site)
-REPORT(summary, &site, SW_LABELS)
-REPORT(status, &site)
-REPORT(export, &site)
-REPORT(delta, &site, BYTES(T(SUMMARY)))
-REPORT(missing, &site, BYTES(T("nb")))
-REPORT(outdated, &site, BYTES(T("fr")), BYTES(T("en")))
-REPORT(changes, &other, &site)
+ASKS(sw_site_write, &site)
+ASKS(sw_site_summary, &site, SW_LABELS)
+ASKS(sw_site_status, &site)
+ASKS(sw_site_export, &site)
+ASKS(sw_site_delta, &site, BYTES(T(SUMMARY)))
+ASKS(sw_site_missing, &site, BYTES(T("nb")))
+ASKS(sw_site_outdated, &site, BYTES(T("fr-x-a-private-tag")), BYTES(T("en")))
+ASKS(sw_site_changes, &other, &site)
 /* Questions, to the site and to a document where it lies. */
 #define OFFER BYTES(T("zh-Hant-CN-x-private1-private2;q=0.8, *;q=0.1"))
 #define LOOKED_UP OFFER, SW_LENIENT, BYTES(T("m")), BYTES(T(LONG_FIELD)), BYTES(T("en"))
 #define FILTERED OFFER, SW_EXTENDED | SW_LENIENT, BYTES(T("m")), BYTES(T(LONG_FIELD "en"))
-REPORT(lookup, &site, LOOKED_UP)
-REPORT(text, &site, LOOKED_UP, 0)
-REPORT(filter, &site, FILTERED)
-REPORT(bundle, &site, OFFER, SW_LENIENT, BYTES(T(LONG_FIELD)), BYTES(T("en")))
+ASKS(sw_site_lookup, &site, LOOKED_UP)
+ASKS(sw_site_text, &site, LOOKED_UP, 0)
+ASKS(sw_site_filter, &site, FILTERED)
+ASKS(sw_site_bundle, &site, OFFER, SW_LENIENT, BYTES(T(LONG_FIELD)), BYTES(T("en")))
+ASKS(sw_text_lookup, BYTES(T(PARIS)), LOOKED_UP)
+ASKS(sw_text_text, BYTES(T(PARIS)), LOOKED_UP, 0)
+ASKS(sw_text_filter, BYTES(T(PARIS)), FILTERED)
 
-ASKS(look_up_in_text, found(sw_text_lookup(BYTES(T(PARIS)), LOOKED_UP, out, ROOM, &told)))
-ASKS(text_of_text, found(sw_text_text(BYTES(T(PARIS)), LOOKED_UP, 0, out, ROOM, &told)))
-ASKS(filter_text, found(sw_text_filter(BYTES(T(PARIS)), FILTERED, out, ROOM, &told)))
-
-static void share(void) {
+static void call_sw_site_share(void) {
   sw_site one = {0};
   found(sw_site_share(&site, &one));
   sw_site_free(&one);
 }
 
-MAKES(open_deep, sw_site_open(BYTES(deep), &site, &told))
-MAKES(take_deep, sw_site_take(&site, 0, BYTES(deep), 0, &told))
-MAKES(import_deep, sw_site_import(&site, 9, BYTES(deep), &told))
-MAKES(update_deep, sw_site_update(&site, 9, BYTES(T("{}")), BYTES(deep), &told))
-ASKS(delta_deep, sw_site_delta(&site, BYTES(deep), out, ROOM, &told))
+RUNS(open_deep, sw_site_open(BYTES(deep), &site, &told))
+RUNS(take_deep, sw_site_take(&site, 0, BYTES(deep), 0, &told))
+RUNS(import_deep, sw_site_import(&site, 9, BYTES(deep), &told))
+RUNS(update_deep, sw_site_update(&site, 9, BYTES(T("{}")), BYTES(deep), &told))
+RUNS(delta_deep, uint8_t out[ROOM]; sw_site_delta(&site, BYTES(deep), out, ROOM, &told))
 
 static void *runs(void *call) {
   (*(void (**)(void))call)();
@@ -164,24 +157,24 @@ static const struct {
 #define SITE ",\"kind\":\"site\",\"site\":\"paris\",\"version\":2}"
 #define TO_PARIS ",\"kind\":\"delta\",\"to\":\"paris\",\"version\":2}"
 #define OF_OSLO ",\"kind\":\"summary\",\"owner\":\"oslo\",\"version\":2}"
-    {open_deep, "{\"cells\":[", "[", "]", "]" SITE},
-    {open_deep, "{\"cells\":[", "{\"a\":", "}", "]" SITE},
-    {open_deep, "{\"cells\":[[\"m\",\"en\",5,\"paris\",0,", "[", "]", "]]" SITE},
-    {open_deep, "{\"a\":", "[", "]", ",\"cells\":[]" SITE},
-    {open_deep, "{\"a\":", "{\"a\":1,\"b\":", "}", ",\"cells\":[]" SITE},
-    {open_deep, "", "[", "]", ""},
-    {open_deep, "", "{\"a\":", "}", ""},
-    {take_deep, "{\"cells\":[", "[", "]", "]" TO_PARIS},
-    {take_deep, "{\"cells\":[[\"m\",\"en\",5,\"paris\",0,", "{\"a\":", "}", "]]" TO_PARIS},
-    {take_deep, "{\"a\":", "{\"a\":1,\"b\":", "}", ",\"cells\":[]" TO_PARIS},
-    {delta_deep, "{\"stamps\":[", "[", "]", "]" OF_OSLO},
-    {delta_deep, "{\"a\":", "{\"a\":1,\"b\":", "}", ",\"stamps\":[]" OF_OSLO},
-    {import_deep, "{\"m\":{\"en\":", "[", "]", "}}"},
-    {import_deep, "{\"m\":{\"en\":", "{\"a\":", "}", "}}"},
-    {import_deep, "{\"m\":", "{\"a\":1,\"b\":", "}", "}"},
-    {import_deep, "", "{\"a\":", "}", ""},
-    {update_deep, "{\"m\":{\"en\":", "{\"a\":", "}", "}}"},
-    {update_deep, "", "{\"a\":1,\"b\":", "}", ""},
+    {call_open_deep, "{\"cells\":[", "[", "]", "]" SITE},
+    {call_open_deep, "{\"cells\":[", "{\"a\":", "}", "]" SITE},
+    {call_open_deep, "{\"cells\":[[\"m\",\"en\",5,\"paris\",0,", "[", "]", "]]" SITE},
+    {call_open_deep, "{\"a\":", "[", "]", ",\"cells\":[]" SITE},
+    {call_open_deep, "{\"a\":", "{\"a\":1,\"b\":", "}", ",\"cells\":[]" SITE},
+    {call_open_deep, "", "[", "]", ""},
+    {call_open_deep, "", "{\"a\":", "}", ""},
+    {call_take_deep, "{\"cells\":[", "[", "]", "]" TO_PARIS},
+    {call_take_deep, "{\"cells\":[[\"m\",\"en\",5,\"paris\",0,", "{\"a\":", "}", "]]" TO_PARIS},
+    {call_take_deep, "{\"a\":", "{\"a\":1,\"b\":", "}", ",\"cells\":[]" TO_PARIS},
+    {call_delta_deep, "{\"stamps\":[", "[", "]", "]" OF_OSLO},
+    {call_delta_deep, "{\"a\":", "{\"a\":1,\"b\":", "}", ",\"stamps\":[]" OF_OSLO},
+    {call_import_deep, "{\"m\":{\"en\":", "[", "]", "}}"},
+    {call_import_deep, "{\"m\":{\"en\":", "{\"a\":", "}", "}}"},
+    {call_import_deep, "{\"m\":", "{\"a\":1,\"b\":", "}", "}"},
+    {call_import_deep, "", "{\"a\":", "}", ""},
+    {call_update_deep, "{\"m\":{\"en\":", "{\"a\":", "}", "}}"},
+    {call_update_deep, "", "{\"a\":1,\"b\":", "}", ""},
 };
 
 static const char *line[2];
@@ -201,17 +194,17 @@ static const struct {
   void (*call)(void);
   const char *line[2], *before;
 } LINES[] = {
-    {open_deep, {"status"}, ""},      {open_deep, {"replay"}, ""},         {take_deep, {"take"}, PARIS},
-    {delta_deep, {"delta"}, PARIS},   {import_deep, {"import", "--now=9"}, PARIS},
-    {update_deep, {"update", "--now=9"}, PARIS "{}\n"}, {nothing, {"help", "put"}, ""},
-    {nothing, {"pick"}, ""},
+    {call_open_deep, {"status"}, ""},      {call_open_deep, {"replay"}, ""},         {call_take_deep, {"take"}, PARIS},
+    {call_delta_deep, {"delta"}, PARIS},   {call_import_deep, {"import", "--now=9"}, PARIS},
+    {call_update_deep, {"update", "--now=9"}, PARIS "{}\n"}, {call_nothing, {"help", "put"}, ""},
+    {call_nothing, {"pick"}, ""},
 };
 
 /* The stack of the command line that takes the most, over this document and where that is none. */
 static size_t of_command_lines(void call(void)) {
   size_t deepest = 0;
   for (size_t it = 0; it < sizeof LINES / sizeof *LINES; it++) {
-    if (LINES[it].call != call && LINES[it].call != nothing) continue;
+    if (LINES[it].call != call && LINES[it].call != call_nothing) continue;
     size_t before = strlen(LINES[it].before);
     input = (text){block(before + deep.len), before + deep.len};
     memcpy(input.bytes, LINES[it].before, before);
@@ -240,43 +233,11 @@ static size_t of_deep_documents(void) {
   return deepest;
 }
 
+#define ROW(name) {#name, call_##name},
 static const struct {
   const char *name;
   void (*call)(void);
-} CALLS[] = {
-    {"a thread alone", nothing},
-    {"sw_pick", pick},
-    {"sw_filter", filter_tags},
-    {"sw_refusal", refusal},
-    {"sw_refusal_text", refusal_text},
-    {"sw_site_open of version 1", open_version_1},
-    {"of members in another order", open_reversed},
-    {"as lexicat writes them", open_site},
-    {"sw_site_new", new_site},
-    {"sw_site_put", put},
-    {"sw_site_delete", delete},
-    {"sw_site_put, shared", put_shared},
-    {"sw_site_import", import},
-    {"sw_site_update", update},
-    {"sw_site_take", take},
-    {"sw_site_merge", merge},
-    {"sw_site_write", write_call},
-    {"sw_site_summary", summary_call},
-    {"sw_site_status", status_call},
-    {"sw_site_export", export_call},
-    {"sw_site_delta", delta_call},
-    {"sw_site_missing", missing_call},
-    {"sw_site_outdated", outdated_call},
-    {"sw_site_changes", changes_call},
-    {"sw_site_lookup", lookup_call},
-    {"sw_site_text", text_call},
-    {"sw_site_filter", filter_call},
-    {"sw_site_bundle", bundle_call},
-    {"sw_text_lookup", look_up_in_text},
-    {"sw_text_text", text_of_text},
-    {"sw_text_filter", filter_text},
-    {"sw_site_share", share},
-};
+} CALLS[] = {ROW(nothing) EACH_CALL(ROW) ROW(open_version_1) ROW(open_reversed) ROW(put_shared)};
 
 int main(void) {
   printf("stacks:");

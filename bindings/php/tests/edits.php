@@ -50,7 +50,10 @@ $paris->merge($tokyo, 9, checkOwn: true);
 $paris->merge($paris);
 line([$share->export(), $paris->export(), $tokyo->missing('fr'), $paris->outdated('en', 'ja')]);
 line([$paris->changes($tokyo), $share->changes($paris)]);
-line([$paris->status(), Site::new('lima')->status()]);
+$lima = Site::new('lima');
+line([$paris->status(), $lima->status()]);
+$lima->put('m', 'es', 'Hola', 2 ** 40);
+line($lima->status());
 line([Tags::pick('en', ['en-US'], widen: true), Tags::pick(null, ['en', 'fr'], 'fr'),
     Tags::filter('da, en;q=0.5', ['en', 'da', 'en-GB']), Tags::pick('*', [], 'en')]);
 line([$paris->text('m', 'ja'), $paris->filter('m', 'en;q=0.5'), $paris->bundle('ja')]);

@@ -1,10 +1,11 @@
 #!/usr/bin/env bash
 # Runs the package for PHP: its declarations beside the header, the page of the examples as web
 # servers ask for it, edits and an exchange of two sites, and its installation by Composer. php.sh
-# says what it takes and needs; besides Composer, curl and a C compiler.
+# says what it takes and needs; besides Python, Composer, curl and a C compiler.
 cd "$(dirname "$0")/../../.." || exit 1
 . tests/lib/tap.sh
 . bindings/php/tests/php.sh
+needs python3
 package=$PWD/bindings/php
 page=$PWD/examples/front/page.php
 greeting='<p lang="de-ch" dir="auto">Grüezi</p>'
@@ -15,7 +16,7 @@ greeting='<p lang="de-ch" dir="auto">Grüezi</p>'
 export SITE=$room/site.json
 
 has_declarations() {
-    php "$own/declared.php" | diff - "$package/src/silkwaram.h"
+    tools/calls php | diff - "$package/src/silkwaram.h"
 }
 
 has_the_page() { # a header, a line of the page, and words of PHP
@@ -28,8 +29,7 @@ prints() { # a program of this folder, and what it is given; it prints the text 
 
 version=$(sed -nE 's/^#define SW_VERSION ([0-9]+)$/\1/p' include/silkwaram.h)
 says_over() { # what each call of a library returns, its version, and what PHP says of it
-    sed -nE "s/^[a-z0-9_]+ (sw_[a-z_]+)\(.*/int \1(void) { return $1; }/p" \
-        "$package/src/silkwaram.h" | sed "/sw_version/s/$1/$2/" |
+    tools/calls names | sed "s/.*/int &(void) { return $1; }/; /sw_version/s/$1/$2/" |
         "${CC:-cc}" -w -shared -fPIC -x c - -o "$room/other.so" &&
         SILKWARAM_LIBRARY=$room/other.so with_ffi "$page" 2>&1 | grep -F "$3"
 }

@@ -7,10 +7,11 @@ import array
 import contextlib
 import copy
 import io
+import json
 import mmap
 import os
 import pickle
-import re
+import subprocess
 import tempfile
 import threading
 import unittest
@@ -19,8 +20,10 @@ from unittest import mock
 import silkwaram
 from cases import PARIS, ROW, Case, document, run_python, side_by_side, written
 from silkwaram import Choice, Label, Refused, Site, pick
+from silkwaram._calls import CALLS
 
 HEADER = os.path.join(os.path.dirname(__file__), "../../../include/silkwaram.h")
+TOOL = os.path.join(os.path.dirname(__file__), "../../../tools/calls")
 BUFFERS = (bytes, bytearray, memoryview, lambda text: array.array("B", text))
 TEXT = "must be str or bytes-like, not"
 
@@ -528,8 +531,8 @@ class Copies(unittest.TestCase):
             text = it.read()
         major, minor, patch = map(int, silkwaram.__version__.split("."))
         self.assertIn(f"#define SW_VERSION {10000 * major + 100 * minor + patch}\n", text)
-        declared = re.findall(r"^\w+ (sw_\w+)\(", text, re.M)
-        self.assertEqual(sorted(declared), sorted(silkwaram._library._CALLS))
+        declared = subprocess.run([TOOL, "json"], check=True, stdout=subprocess.PIPE).stdout
+        self.assertEqual(json.loads(declared), CALLS)
 
 
 class Libraries(unittest.TestCase):
@@ -545,7 +548,7 @@ class Libraries(unittest.TestCase):
                 self.assertEqual((ran.returncode, ran.stderr), (0, ""))
 
 
-class Faults(unittest.TestCase):
+class Faults(Case):
     def test_what_a_refusal_says(self):
         subtag = "(each subtag is 1 to 8 letters or digits, with a hyphen between two)"
         clash = "two different edits of a message in a language have two timestamps"
@@ -566,6 +569,18 @@ class Faults(unittest.TestCase):
         ]:
             with self.subTest(line=line):
                 self.assertEqual(str(fault), f"refused {line}")
+
+    def test_the_document_that_is_wanted(self):
+        site = Site.open(PARIS)
+        for call, wanted in [
+            (site.reload, "a site document is wanted"),
+            (site.take, "a delta document is wanted"),
+            (site.delta_for, "a summary document is wanted"),
+            (site.import_maps, "language maps are wanted"),
+            (lambda it: site.update({}, it), "language maps are wanted"),
+        ]:
+            with self.subTest(wanted):
+                self.assertEqual(self.refuses(20, call, "[]").wanted, wanted)
 
     def test_a_refusal_that_is_pickled(self):
         for fault in (

@@ -1,8 +1,9 @@
 """The shared library, and its calls as `silkwaram.h` declares them."""
 import ctypes
 from ctypes import POINTER, c_char_p, c_int32, c_size_t, c_uint32, c_uint64, c_void_p
-from typing import Any, NamedTuple, Tuple
+from typing import Any, Dict, List, NamedTuple, Tuple
 
+from ._calls import CALLS
 from ._paths import path_of
 
 NAME = "libsilkwaram.so.0"
@@ -34,51 +35,25 @@ class Handle(ctypes.Structure):
 
 
 class Answer(NamedTuple):
-    """What a call answered."""
+    """What a call of this name answered."""
 
     status: int
     told: Told
     text: bytes
+    call: str = ""
 
 
-_TEXT = [c_char_p, c_size_t]
-# A text that may lie anywhere: its bytes, or their address.
-_LYING = [c_void_p, c_size_t]
-_TOLD = [POINTER(Told)]
-_OUT = [c_char_p, c_size_t, *_TOLD]
-_SITE = [POINTER(Handle)]
-_CALLS = {
-    "sw_version": (c_uint32, []),
-    "sw_pick": (c_int32, [c_uint32, *_TEXT * 3, *_OUT]),
-    "sw_filter": (c_int32, [c_uint32, *_TEXT * 2, *_OUT]),
-    "sw_refusal": (c_int32, [c_uint32, *_OUT]),
-    "sw_refusal_text": (c_int32, [c_uint32, *_OUT]),
-    "sw_site_open": (c_int32, [*_TEXT, *_SITE, *_TOLD]),
-    "sw_site_new": (c_int32, [*_TEXT, *_SITE, *_TOLD]),
-    "sw_site_lookup": (c_int32, [*_SITE, *_TEXT, c_uint32, *_TEXT * 3, *_OUT]),
-    "sw_site_text": (c_int32, [*_SITE, *_TEXT, c_uint32, *_TEXT * 3, c_size_t, *_OUT]),
-    "sw_site_filter": (c_int32, [*_SITE, *_TEXT, c_uint32, *_TEXT * 2, *_OUT]),
-    "sw_site_bundle": (c_int32, [*_SITE, *_TEXT, c_uint32, *_TEXT * 2, *_OUT]),
-    "sw_site_put": (c_int32, [*_SITE, c_uint64, *_TEXT * 3, *_TOLD]),
-    "sw_site_delete": (c_int32, [*_SITE, c_uint64, *_TEXT * 2, *_TOLD]),
-    "sw_site_import": (c_int32, [*_SITE, c_uint64, *_TEXT, *_TOLD]),
-    "sw_site_update": (c_int32, [*_SITE, c_uint64, *_TEXT * 2, *_TOLD]),
-    "sw_site_take": (c_int32, [*_SITE, c_uint32, *_TEXT, c_uint64, *_TOLD]),
-    "sw_site_merge": (c_int32, [*_SITE, c_uint32, *_SITE, c_uint64, *_TOLD]),
-    "sw_site_write": (c_int32, [*_SITE, *_OUT]),
-    "sw_site_export": (c_int32, [*_SITE, *_OUT]),
-    "sw_site_summary": (c_int32, [*_SITE, c_uint32, *_OUT]),
-    "sw_site_status": (c_int32, [*_SITE, *_OUT]),
-    "sw_site_missing": (c_int32, [*_SITE, *_TEXT, *_OUT]),
-    "sw_site_outdated": (c_int32, [*_SITE, *_TEXT * 2, *_OUT]),
-    "sw_site_delta": (c_int32, [*_SITE, *_TEXT, *_OUT]),
-    "sw_site_changes": (c_int32, [*_SITE, *_SITE, *_OUT]),
-    "sw_text_lookup": (c_int32, [*_LYING, *_TEXT, c_uint32, *_TEXT * 3, *_OUT]),
-    "sw_text_text": (c_int32, [*_LYING, *_TEXT, c_uint32, *_TEXT * 3, c_size_t, *_OUT]),
-    "sw_text_filter": (c_int32, [*_LYING, *_TEXT, c_uint32, *_TEXT * 2, *_OUT]),
-    "sw_site_share": (c_int32, [*_SITE, *_SITE]),
-    "sw_site_free": (None, [*_SITE]),
+# What a parameter of each kind takes.
+_TAKEN: Dict[str, List[Any]] = {
+    "uint32_t": [c_uint32],
+    "uint64_t": [c_uint64],
+    "size_t": [c_size_t],
+    "text": [c_char_p, c_size_t],
+    "room": [c_char_p, c_size_t],
+    "sw_site": [POINTER(Handle)],
+    "sw_told": [POINTER(Told)],
 }
+_RESULTS = {"int32_t": c_int32, "uint32_t": c_uint32, "void": None}
 
 
 def _loaded(path: str) -> ctypes.CDLL:
@@ -90,18 +65,25 @@ def _loaded(path: str) -> ctypes.CDLL:
             f"{path} cannot be loaded ({fault}): install Silkwaram's library, or name its file by"
             " SILKWARAM_LIBRARY"
         ) from fault
-    for name, (result, parameters) in _CALLS.items():
+    for name, declared in CALLS.items():
         try:
             call = getattr(loaded, name)
         except AttributeError as fault:
             raise ImportError(
                 f"{path} is not Silkwaram's library, or one of an older version: it has no {name}"
             ) from fault
-        call.restype, call.argtypes = result, parameters
+        call.restype = _RESULTS[declared["result"]]
+        call.argtypes = [it for kind, _ in declared["parameters"] for it in _TAKEN[kind]]
     return loaded
 
 
 library = _loaded(path_of(NAME, "SILKWARAM_LIBRARY"))
+
+
+def done(call: Any, *given: Any) -> Answer:
+    """Makes a call of the library that answers nothing but its status."""
+    told = Told()
+    return Answer(call(*given, told), told, b"", call.__name__)
 
 
 def answered(call: Any, *given: Any, room: int = FIRST_ROOM) -> Answer:
@@ -112,7 +94,7 @@ def answered(call: Any, *given: Any, room: int = FIRST_ROOM) -> Answer:
         out = ctypes.create_string_buffer(room)
         status: int = call(*given, out, room, told)
         if told.len <= room:
-            return Answer(status, told, ctypes.string_at(out, told.len))
+            return Answer(status, told, ctypes.string_at(out, told.len), call.__name__)
         room = told.len
 
 

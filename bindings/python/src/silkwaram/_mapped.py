@@ -56,7 +56,7 @@ class _File:
             is_read = is_copied or it.st_size == 0
             held = file.read() if is_read else mmap.mmap(file.fileno(), 0, access=mmap.ACCESS_READ)
         _taken(held, self._buffer, 0)
-        self.text = self._buffer.buf, self._buffer.len
+        self.text = ctypes.c_char_p(self._buffer.buf), self._buffer.len
         # (what every question raises then)
         self.fault = _fault_of(path, held) if is_checked else None
 
@@ -120,7 +120,7 @@ class MappedSite(Questions):
     def _ask_file(file: _File, call: Any, *given: Any) -> Answer:
         if file.fault is not None:
             raise copied(file.fault)
-        return checked(answered(call, *file.text, *given), "a site document")
+        return checked(answered(call, *file.text, *given))
 
     def _current(self) -> _File:
         """The file as it is now. One that cannot be had, or is no site, leaves the one before."""

@@ -3,6 +3,7 @@ import functools
 import re
 from typing import Any, Optional, Tuple
 
+from ._calls import CALLS
 from ._library import (
     FOUND, HAS_COUNT, HAS_OFFSET, HAS_ROW, NO_MEMORY, OF_SECOND, REFUSED, Answer, answered, library,
 )
@@ -59,14 +60,11 @@ class Refused(ValueError):
 
 
 def _wanted(document: str) -> str:
-    return f"{document} {'are' if document.endswith('s') else 'is'} wanted"
+    return document and f"{document} {'are' if document.endswith('s') else 'is'} wanted"
 
 
-def checked(answer: Answer, document: str = "") -> Answer:
-    """Returns the answer, or raises what its status says.
-
-    `document` is the kind of document that the call read, if it read one.
-    """
+def checked(answer: Answer) -> Answer:
+    """Returns the answer, or raises what its status says."""
     told = answer.told
     if answer.status == NO_MEMORY:
         raise MemoryError("out of memory")
@@ -75,7 +73,7 @@ def checked(answer: Answer, document: str = "") -> Answer:
             told.number,
             told.offset if told.given & HAS_OFFSET else None,
             told.row if told.given & HAS_ROW else None,
-            _wanted(document) if told.number == SHAPE and document else "",
+            _wanted(CALLS[answer.call]["reads"]) if told.number == SHAPE else "",
             told.count if told.given & HAS_COUNT else None,
             bool(told.given & OF_SECOND),
         )

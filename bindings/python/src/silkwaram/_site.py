@@ -6,11 +6,11 @@ from typing import Any, List, Mapping, Optional, Union
 from . import _answers
 from ._answers import Change, LanguageMaps, Status
 from ._arguments import Text, flags, given_or, limit, moment, offered, words, wrong_type
-from ._library import CHECK_OWN, FIRST_ROOM, LABELS, USAGE, Answer, Handle, Told, answered, library
+from ._library import (
+    CHECK_OWN, FIRST_ROOM, LABELS, USAGE, Answer, Handle, Told, answered, done, library,
+)
 from ._questions import Calls, Questions
 from ._refusals import NOT_JSON, Refused, checked
-
-LANGUAGE_MAPS = "language maps"
 
 # Language maps: their JSON text, or what `json.dumps` makes it of.
 Maps = Union[Text, Mapping[str, Any]]
@@ -86,9 +86,8 @@ class Site(Questions):
 
         No two sites that exchange may have one name.
         """
-        site, told = cls(), Told()
-        status = library.sw_site_new(*words(name=name), site._handle, told)
-        checked(Answer(status, told, b""))
+        site = cls()
+        checked(done(library.sw_site_new, *words(name=name), site._handle))
         return site
 
     def reload(self, document: Text) -> None:
@@ -100,12 +99,12 @@ class Site(Questions):
         Refused: as by `open`.
         """
         texts = words(document=document)
-        handle, told = _Held(), Told()
+        handle = _Held()
         with self._reading:
-            status = library.sw_site_open(*texts, handle, told)
-            if told.number == NOT_JSON and _may_be_name(document):
+            answer = done(library.sw_site_open, *texts, handle)
+            if answer.told.number == NOT_JSON and _may_be_name(document):
                 raise Refused(NOT_JSON, wanted="the document itself is wanted, not its name")
-            checked(Answer(status, told, b""), "a site document")
+            checked(answer)
             with self._lock:
                 # (the old site is let go after that, with `handle`)
                 handle, self._handle = self._handle, handle
@@ -219,8 +218,7 @@ class Site(Questions):
         Refused: what is no JSON text of language maps (18 to 20, 22), and a label of it (1 to 4, 10
         to 12); any edit (14) as by `put`.
         """
-        texts = words(maps=_json_text(maps))
-        self._edit(library.sw_site_import, moment(now), *texts, document=LANGUAGE_MAPS)
+        self._edit(library.sw_site_import, moment(now), *words(maps=_json_text(maps)))
 
     def update(self, old: Maps, new: Maps, now: Optional[int] = None) -> None:
         """Makes the edits by which language maps as they were became what they are now, all or
@@ -232,7 +230,7 @@ class Site(Questions):
         Refused: as by `import_maps`, the old ones before the new ones (`of_second`).
         """
         texts = words(old=_json_text(old), new=_json_text(new))
-        self._edit(library.sw_site_update, moment(now), *texts, document=LANGUAGE_MAPS)
+        self._edit(library.sw_site_update, moment(now), *texts)
 
     # Exchange.
 
@@ -249,8 +247,7 @@ class Site(Questions):
 
         Refused: what is no summary (18 to 21, 27, 28), and a field of a row (1 to 4, 10).
         """
-        given = words(summary=summary)
-        return self._ask(library.sw_site_delta, *given, document="a summary document").text
+        return self._ask(library.sw_site_delta, *words(summary=summary)).text
 
     def take(
         self, delta: Text, not_after: Optional[int] = None, check_own: bool = False
@@ -267,8 +264,7 @@ class Site(Questions):
         (30); a clash, two labels of one stamp (13).
         """
         checks, texts = CHECK_OWN * bool(check_own), words(delta=delta)
-        given = [checks, *texts, limit(not_after)]
-        self._edit(library.sw_site_take, *given, document="a delta document")
+        self._edit(library.sw_site_take, checks, *texts, limit(not_after))
 
     def merge(
         self, other: "Site", not_after: Optional[int] = None, check_own: bool = False
@@ -299,20 +295,17 @@ class Site(Questions):
         self._size = max(self._size, len(text))
         return text
 
-    def _ask(
-        self, call: Any, *given: Any, document: str = "", room: int = FIRST_ROOM
-    ) -> Answer:
+    def _ask(self, call: Any, *given: Any, room: int = FIRST_ROOM) -> Answer:
         with self._lock:
             answer = answered(call, self._handle, *given, room=room)
-        return self._checked(answer, document)
+        return self._checked(answer)
 
-    def _edit(self, call: Any, *given: Any, document: str = "") -> None:
-        told = Told()
+    def _edit(self, call: Any, *given: Any) -> None:
         with self._lock:
-            status = call(self._handle, *given, told)
-        self._checked(Answer(status, told, b""), document)
+            answer = done(call, self._handle, *given)
+        self._checked(answer)
 
-    def _checked(self, answer: Answer, document: str = "") -> Answer:
+    def _checked(self, answer: Answer) -> Answer:
         if answer.status == USAGE:
             raise ValueError("the site is closed")
-        return checked(answer, document)
+        return checked(answer)
