@@ -1,8 +1,9 @@
 //! What readers are offered of a site, as a question gets it.
-ghost use Rattle.std.specs.Prelude.{MatchResult};
+ghost use Rattle.std.specs.Prelude.{◌≡◌, ◌↔◌, IsTrue, MatchResult};
+ghost use Rattle.nego_core.specs.Offer.{public_items};
 ghost use Rattle.front_core.specs.Offering.{IsOffer, RefusesOffer, offers_of};
 
-use nego_core::{NegoFault, Offer, PriorityList};
+use nego_core::{Item, NegoFault, Offer, PriorityList};
 use std::alloc::Global;
 use std::marker::Model;
 
@@ -26,6 +27,9 @@ impl<'o> Offering<'o> {
             Offering::Given(offer) => Ok(Offered(Held::Given(offer))),
             Offering::Field(text) => {
                 let list = PriorityList::from_accept(alloc, text)?;
+                if is_public(&list) {
+                    return Ok(Offered(Held::Given(Offer::Public)));
+                }
                 Ok(Offered(Held::Read(list)))
             }
         }
@@ -67,4 +71,21 @@ impl Offered<'_> {
             Held::Read(list) => Offer::Listed(list),
         }
     }
+}
+
+/// Whether the list is that of the field `*, x;q=0`, which is faster without a list.
+fn is_public(list: &PriorityList) -> bool
+    ensures { IsTrue result → list.now ≡ public_items }
+{
+    match list.items() {
+        [all, private] => is_item(all, "*", 1000) && is_item(private, "x", 0),
+        _ => false,
+    }
+}
+
+/// Whether the item is this range with this weight.
+fn is_item(item: &Item, range: &str, weight: u16) -> bool
+    ensures { IsTrue result ↔ ((item.now.range ≡ range.now) × (item.now.weight ≡ weight)) }
+{
+    item.range().as_str() == range && item.weight() == weight
 }

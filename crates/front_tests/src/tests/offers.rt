@@ -66,7 +66,26 @@ fn a_note_is_not_offered_unless_the_offer_has_it(rt: HostRuntime) -> Result<(), 
             Outcome::Found
         )
     );
-    assert!(rt; note_line(alloc, Offering::Field(b"*, x;q=0"), hidden, Outcome::Found));
+    for field in ["*, x;q=0", " *;q=1.0 ,, X;q=0.000", "x;q=0, *;q=0.5"] {
+        assert!(rt;
+            note_line(
+                alloc,
+                Offering::Field(field.as_bytes()),
+                hidden,
+                Outcome::Found
+            )
+        );
+    }
+    for field in ["*, x", "*, x;q=0, x-note;q=0.1"] {
+        assert!(rt;
+            note_line(
+                alloc,
+                Offering::Field(field.as_bytes()),
+                shown,
+                Outcome::Found
+            )
+        );
+    }
     assert!(rt;
         note_line(
             alloc,
