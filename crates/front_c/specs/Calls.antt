@@ -4,6 +4,7 @@ use Rattle.std.specs.Prelude.{Result, option_map}
 use Rattle.cata_core.specs.Site.{SiteState}
 use Rattle.site_docs.specs.Reading.{ReadsAsSite}
 use Rattle.site_docs.specs.declared.checks.Checks.{Checks}
+use Rattle.list_core.specs.declared.fault.NegoFault.{NegoFault}
 use Rattle.front_core.specs.Ask.{IsAnswer, IsNoMemory, RefusesAnswer, RefusesDocument}
 use Rattle.front_core.specs.Ask.{AnswersBundle, AnswersFilter, AnswersLookup, IsFilter, IsLookup}
 use Rattle.front_core.specs.Ask.{IsLookupText, RefusesFilter, RefusesLookup}
@@ -12,7 +13,8 @@ use Rattle.front_core.specs.OpenSite.{LeavesTake, OrNoMemory, RefusesDelete, Ref
 use Rattle.front_core.specs.OpenSite.{RefusesPutInto, RefusesTake, IsNewSite, RefusesNewSite}
 use Rattle.front_core.specs.OpenSite.{AreUpdated, IsImported, RefusesImport, RefusesUpdates}
 use Rattle.front_core.specs.Exchange.{IsDelta, RefusesDelta, ShowsView}
-use Rattle.front_core.specs.Offering.{Offers}
+use Rattle.front_core.specs.Fault.{field_fault}
+use Rattle.front_core.specs.Offering.{HasOffer, Offers, RefusesOffer}
 use Rattle.front_core.specs.Preferences.{FieldText}
 use Rattle.front_core.specs.Reader.{IsReader, RefusesReader}
 use Rattle.docs_core.specs.Lines.{lines_of}
@@ -31,7 +33,9 @@ use Rattle.front_c.specs.Question.{checks_of, default_of, field_of, lookup_field
 use Rattle.front_c.specs.Reporting.{Ends, Reports, ReportsAnswer, ReportsDone, ReportsEither}
 use Rattle.front_c.specs.Reporting.{ReportsFault, ReportsLabelText, ReportsNothing, ReportsPicked}
 use Rattle.front_c.specs.Reporting.{ReportsRead, ReportsText, ReportsUsage, Text, answered}
+use Rattle.front_c.specs.Rules.{offer_of}
 use Rattle.front_c.specs.Status.{found, out_of_memory, usage}
+use Rattle.front_c.specs.declared.rules.Rules.{Rules}
 
 -- ---- tags
 
@@ -204,6 +208,16 @@ IsShared site old new status = ((new ≡ Some site) × (status ≡ found))
 abbrev pub ReportsShared : Option SiteState → Option SiteState → Option SiteState → ℤ → Type 0
 ReportsShared site old new status =
     MatchOption site ((new ≡ old) × (status ≡ usage)) (λ s. IsShared s old new status)
+
+-- ---- rules
+
+-- the rules have the text of the offer, which reads as one; or they are as they were, since it does
+-- not
+abbrev pub ReportsRules : Text → Rules → Rules → Reports
+ReportsRules offer old new told status =
+    (HasOffer (offer_of offer) × (new.offer.now ≡ offer) × ReportsDone told status)
+    ⊎ ((fault : NegoFault) × RefusesOffer (offer_of offer) fault × (new ≡ old)
+    × ReportsFault (field_fault fault) told status)
 
 -- ---- edits
 

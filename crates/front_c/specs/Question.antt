@@ -11,8 +11,6 @@ use Rattle.site_docs.specs.declared.checks.OwnEdits.{OwnEdits}
 use Rattle.site_docs.specs.declared.checks.OwnEdits.TheVariants.{Checked, Unchecked}
 use Rattle.summary_docs.specs.declared.summaries.Shows.{Shows}
 use Rattle.summary_docs.specs.declared.summaries.Shows.TheVariants.{Labels, Stamps}
-use Rattle.nego_core.specs.Offer.{public_items}
-use Rattle.front_core.specs.Offering.{Items, Offers, Text}
 use Rattle.front_core.specs.Preferences.{FieldText}
 
 -- a field with its scheme and what malformed elements do, for a lookup that is not widened
@@ -43,11 +41,6 @@ lookup_field_of flags text =
     else if flags == 6 then Some (widened Basic PassedOver text)
     else if flags == 7 then Some (widened Extended PassedOver text)
     else field_of flags text
-
--- what is offered: by this field, or all but private use where it has no bytes
-abbrev pub offer_of : List ℕ → Offers
-offer_of [] = Items public_items
-offer_of (byte ∷ bytes) = Text (byte ∷ bytes)
 
 -- an empty default is none
 abbrev pub default_of : List ℕ → Option (List ℕ)

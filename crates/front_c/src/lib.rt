@@ -4,6 +4,7 @@
 //! - [`sw_pick`] picks a tag for a field.
 //! - [`sw_site_open`] reads a site into a handle, [`sw_site_share`] makes one more handle of it,
 //!   and [`sw_site_free`] releases it.
+//! - [`sw_rules_new`] makes the rules of an offer, and [`sw_rules_free`] ends them.
 //! - [`sw_site_lookup`], [`sw_site_text`], [`sw_site_filter`] and [`sw_site_bundle`] put questions
 //!   to a site, of the labels that are offered.
 //! - [`sw_text_lookup`], [`sw_text_text`] and [`sw_text_filter`] put them to the document of a site
@@ -21,7 +22,7 @@
 //! no answer or a refusal, all of it is as it was; the status and the reported length are as with
 //! room. No export has a `requires`: the contract of each holds for whatever it is passed.
 //!
-//! What a question of a site is offered is a field too, which is read strictly, as an
+//! A question of a site has [`Rules`], whose offer is a field too, which is read strictly, as an
 //! Accept-Language field. Without bytes it stands for `*, x;q=0`: all languages but those of
 //! private use.
 //!
@@ -33,37 +34,39 @@
 //! has status 2.
 #![tactic(auto)]
 
-ghost use Rattle.std.specs.Prelude.{◌≡◌, None};
+ghost use Rattle.std.specs.Prelude.{◌≡◌, [], None};
 ghost use denote.RawPtr.{null_ptr};
 ghost use Rattle.front_c.specs.Calls.{ReportsBundle, ReportsChanges, ReportsDeleted, ReportsDelta};
 ghost use Rattle.front_c.specs.Calls.{ReportsFilter, ReportsImported, ReportsLookup};
 ghost use Rattle.front_c.specs.Calls.{ReportsLookupText, ReportsMeaning, ReportsMerged};
 ghost use Rattle.front_c.specs.Calls.{ReportsMissing, ReportsNew, ReportsOpened, ReportsOutdated};
 ghost use Rattle.front_c.specs.Calls.{ReportsPick, ReportsPut, ReportsReadFilter};
-ghost use Rattle.front_c.specs.Calls.{ReportsReadLookup, ReportsRefusalText, ReportsShared};
-ghost use Rattle.front_c.specs.Calls.{ReportsSummary, ReportsTagFilter};
+ghost use Rattle.front_c.specs.Calls.{ReportsReadLookup, ReportsRefusalText, ReportsRules};
+ghost use Rattle.front_c.specs.Calls.{ReportsShared, ReportsSummary, ReportsTagFilter};
 ghost use Rattle.front_c.specs.Calls.{ReportsTaken, ReportsUpdated, ReportsView, ReportsWritten};
 ghost use Rattle.front_c.specs.Reporting.{ReportsAnswer, ReportsLabelText};
 ghost use Rattle.front_c.specs.Handles.{site_of};
-ghost use Rattle.front_c.specs.Question.{offer_of};
+ghost use Rattle.front_c.specs.Rules.{offered_by};
 ghost use Rattle.front_core.specs.declared.exchange.View.TheVariants.{Document, Export, Status};
 
 mod handles;
 mod question;
 mod reporting;
+mod rules;
 mod status;
 mod told;
 
-use crate::question::{checks_of, default_of, field_of, lookup_field_of, offering_of, shows_of};
+use crate::question::{checks_of, default_of, field_of, lookup_field_of, shows_of};
 use crate::reporting::{
-    ask, explained, hold, hold_share, report, report_edit, report_label_text, report_nothing,
-    report_pick, report_refusal, report_text, report_text_in, report_usage,
+    ask, explained, hold, hold_share, report, report_done, report_edit, report_label_text,
+    report_nothing, report_pick, report_refusal, report_text, report_text_in, report_usage,
 };
 use front_core::{
-    Filter, Lookup, Missing, OpenSite, Outdated, Reader, VERSION_NUMBER, View, changes, delta,
-    filter_tags,
+    Filter, FrontFault, Lookup, Missing, OpenSite, Outdated, Reader, VERSION_NUMBER, View, changes,
+    delta, filter_tags,
 };
 pub use handles::site_handle::{SiteBlock, SiteHandle};
+pub use rules::Rules;
 use std::alloc::{AllocError, Global};
 use std::mem;
 pub use told::Told;
@@ -449,6 +452,34 @@ pub extern "C" fn sw_refusal_text(number: u32, out: &mut [u8], told: &mut Told) 
     }
 }
 
+/// Makes the rules of an offer, which is read here for its refusals (8, 9, 26); where one comes the
+/// rules are as they were. They borrow the text.
+#[unsafe(no_mangle)]
+pub extern "C" fn sw_rules_new<'a>(
+    alloc: Global,
+    offer: &'a [u8],
+    rules: &mut Rules<'a>,
+    told: &mut Told,
+) -> i32
+    ensures { ReportsRules offer.now rules.old rules.new told.new result }
+{
+    match Rules::read(alloc, offer) {
+        Ok(read) => {
+            *rules = read;
+            report_done(told)
+        }
+        Err(fault) => report_refusal(&FrontFault::from(fault), told),
+    }
+}
+
+/// Leaves the rules with an empty offer. They own no memory.
+#[unsafe(no_mangle)]
+pub extern "C" fn sw_rules_free<'a>(rules: &mut Rules<'a>)
+    ensures { rules.new.offer.now ≡ [] }
+{
+    rules.offer = &[];
+}
+
 /// Looks up the label of a message for a field (RFC 4647 section 3.4), or that of the default, and
 /// answers the line of the command `lookup`, of the labels that are offered.
 ///
@@ -457,7 +488,7 @@ pub extern "C" fn sw_refusal_text(number: u32, out: &mut [u8], told: &mut Told) 
 pub extern "C" fn sw_site_lookup(
     alloc: Global,
     site: &mut SiteHandle,
-    offer: &[u8],
+    rules: &Rules<'_>,
     flags: u32,
     id: &[u8],
     field: &[u8],
@@ -466,12 +497,12 @@ pub extern "C" fn sw_site_lookup(
     told: &mut Told,
 ) -> i32
     ensures site { site.new.value ≡ site.old.value }
-    ensures answer { ReportsLookup (site_of site.old) (offer_of offer.now) flags id.now field.now
+    ensures answer { ReportsLookup (site_of site.old) (offered_by rules.now) flags id.now field.now
         default.now out.old out.new told.new result }
 {
     match lookup_field_of(flags, field) {
         Some(field) => {
-            let asked = Lookup::read(alloc, id, offering_of(offer), field, default_of(default));
+            let asked = Lookup::read(alloc, id, rules.offering(), field, default_of(default));
             ask(alloc, site, asked, out, told)
         }
         None => report_usage(told),
@@ -486,7 +517,7 @@ pub extern "C" fn sw_site_lookup(
 pub extern "C" fn sw_site_text(
     alloc: Global,
     site: &mut SiteHandle,
-    offer: &[u8],
+    rules: &Rules<'_>,
     flags: u32,
     id: &[u8],
     field: &[u8],
@@ -496,7 +527,7 @@ pub extern "C" fn sw_site_text(
     told: &mut Told,
 ) -> i32
     ensures site { site.new.value ≡ site.old.value }
-    ensures answer { ReportsLookupText (site_of site.old) (offer_of offer.now) flags id.now
+    ensures answer { ReportsLookupText (site_of site.old) (offered_by rules.now) flags id.now
         field.now default.now place out.old out.new told.new result }
 {
     let Some(field) = lookup_field_of(flags, field) else {
@@ -505,7 +536,7 @@ pub extern "C" fn sw_site_text(
     let Some(held) = site.open() else {
         return report_usage(told);
     };
-    match Lookup::read(alloc, id, offering_of(offer), field, default_of(default)) {
+    match Lookup::read(alloc, id, rules.offering(), field, default_of(default)) {
         Ok(asked) => report_label_text(asked.text(held.site(), place), out, told),
         Err(fault) => report_refusal(&fault, told),
     }
@@ -519,7 +550,7 @@ pub extern "C" fn sw_site_text(
 pub extern "C" fn sw_site_filter(
     alloc: Global,
     site: &mut SiteHandle,
-    offer: &[u8],
+    rules: &Rules<'_>,
     flags: u32,
     id: &[u8],
     field: &[u8],
@@ -527,14 +558,14 @@ pub extern "C" fn sw_site_filter(
     told: &mut Told,
 ) -> i32
     ensures site { site.new.value ≡ site.old.value }
-    ensures answer { ReportsFilter (site_of site.old) (offer_of offer.now) flags id.now field.now
+    ensures answer { ReportsFilter (site_of site.old) (offered_by rules.now) flags id.now field.now
         out.old out.new told.new result }
 {
     match field_of(flags, field) {
         Some(field) => ask(
             alloc,
             site,
-            Filter::read(alloc, id, offering_of(offer), field),
+            Filter::read(alloc, id, rules.offering(), field),
             out,
             told,
         ),
@@ -550,7 +581,7 @@ pub extern "C" fn sw_site_filter(
 pub extern "C" fn sw_site_bundle(
     alloc: Global,
     site: &mut SiteHandle,
-    offer: &[u8],
+    rules: &Rules<'_>,
     flags: u32,
     field: &[u8],
     default: &[u8],
@@ -558,12 +589,12 @@ pub extern "C" fn sw_site_bundle(
     told: &mut Told,
 ) -> i32
     ensures site { site.new.value ≡ site.old.value }
-    ensures answer { ReportsBundle (site_of site.old) (offer_of offer.now) flags field.now
+    ensures answer { ReportsBundle (site_of site.old) (offered_by rules.now) flags field.now
         default.now out.old out.new told.new result }
 {
     match lookup_field_of(flags, field) {
         Some(field) => {
-            let asked = Reader::read(alloc, offering_of(offer), field, default_of(default));
+            let asked = Reader::read(alloc, rules.offering(), field, default_of(default));
             ask(alloc, site, asked, out, told)
         }
         None => report_usage(told),
@@ -581,7 +612,7 @@ pub extern "C" fn sw_site_bundle(
 pub extern "C" fn sw_text_lookup(
     alloc: Global,
     text: &[u8],
-    offer: &[u8],
+    rules: &Rules<'_>,
     flags: u32,
     id: &[u8],
     field: &[u8],
@@ -589,15 +620,15 @@ pub extern "C" fn sw_text_lookup(
     out: &mut [u8],
     told: &mut Told,
 ) -> i32
-    ensures written { ReportsWritten text.now (λ site. ReportsLookup site (offer_of offer.now) flags
-        id.now field.now default.now) out.old out.new told.new result }
-    ensures read { ReportsReadLookup (offer_of offer.now) flags id.now field.now default.now
+    ensures written { ReportsWritten text.now (λ site. ReportsLookup site (offered_by rules.now)
+        flags id.now field.now default.now) out.old out.new told.new result }
+    ensures read { ReportsReadLookup (offered_by rules.now) flags id.now field.now default.now
         ReportsAnswer out.old out.new told.new result }
 {
     let Some(field) = lookup_field_of(flags, field) else {
         return report_usage(told);
     };
-    match Lookup::read(alloc, id, offering_of(offer), field, default_of(default)) {
+    match Lookup::read(alloc, id, rules.offering(), field, default_of(default)) {
         Ok(lookup) => report(lookup.answer_in(alloc, text), out, told),
         Err(fault) => report_refusal(&fault, told),
     }
@@ -610,7 +641,7 @@ pub extern "C" fn sw_text_lookup(
 pub extern "C" fn sw_text_text(
     alloc: Global,
     text: &[u8],
-    offer: &[u8],
+    rules: &Rules<'_>,
     flags: u32,
     id: &[u8],
     field: &[u8],
@@ -620,15 +651,15 @@ pub extern "C" fn sw_text_text(
     told: &mut Told,
 ) -> i32
     ensures written { ReportsWritten text.now (λ site. ReportsLookupText site
-        (offer_of offer.now) flags id.now field.now default.now place) out.old out.new told.new
+        (offered_by rules.now) flags id.now field.now default.now place) out.old out.new told.new
         result }
-    ensures read { ReportsReadLookup (offer_of offer.now) flags id.now field.now default.now
+    ensures read { ReportsReadLookup (offered_by rules.now) flags id.now field.now default.now
         ReportsLabelText out.old out.new told.new result }
 {
     let Some(field) = lookup_field_of(flags, field) else {
         return report_usage(told);
     };
-    match Lookup::read(alloc, id, offering_of(offer), field, default_of(default)) {
+    match Lookup::read(alloc, id, rules.offering(), field, default_of(default)) {
         Ok(asked) => report_text_in(alloc, text, &asked, place, out, told),
         Err(fault) => report_refusal(&fault, told),
     }
@@ -642,22 +673,22 @@ pub extern "C" fn sw_text_text(
 pub extern "C" fn sw_text_filter(
     alloc: Global,
     text: &[u8],
-    offer: &[u8],
+    rules: &Rules<'_>,
     flags: u32,
     id: &[u8],
     field: &[u8],
     out: &mut [u8],
     told: &mut Told,
 ) -> i32
-    ensures written { ReportsWritten text.now (λ site. ReportsFilter site (offer_of offer.now) flags
-        id.now field.now) out.old out.new told.new result }
-    ensures read { ReportsReadFilter (offer_of offer.now) flags id.now field.now out.old out.new
+    ensures written { ReportsWritten text.now (λ site. ReportsFilter site (offered_by rules.now)
+        flags id.now field.now) out.old out.new told.new result }
+    ensures read { ReportsReadFilter (offered_by rules.now) flags id.now field.now out.old out.new
         told.new result }
 {
     let Some(field) = field_of(flags, field) else {
         return report_usage(told);
     };
-    match Filter::read(alloc, id, offering_of(offer), field) {
+    match Filter::read(alloc, id, rules.offering(), field) {
         Ok(filter) => report(filter.answer_in(alloc, text), out, told),
         Err(fault) => report_refusal(&fault, told),
     }

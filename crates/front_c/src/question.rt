@@ -1,13 +1,12 @@
 //! The parts of a question or an exchange that C asks for.
 ghost use Rattle.std.specs.Prelude.{◌≡◌, option_map};
 ghost use Rattle.front_core.specs.Preferences.{field_text};
-ghost use Rattle.front_core.specs.Offering.{offers_of};
-ghost use Rattle.front_c.specs.Question.{checks_of, default_of, field_of, limit_of, offer_of};
+ghost use Rattle.front_c.specs.Question.{checks_of, default_of, field_of, limit_of};
 ghost use Rattle.front_c.specs.Question.{lookup_field_of, own_edits_of, shows_of};
 
 use docs_core::{Checks, OwnEdits, Shows};
-use front_core::{Field, Offering};
-use nego_core::{Malformed, Offer, Scheme, Widening};
+use front_core::Field;
+use nego_core::{Malformed, Scheme, Widening};
 
 /// How a field is read under these flags, or none if one of them is unknown: 1 is the extended
 /// scheme, 2 skips malformed elements.
@@ -47,18 +46,6 @@ pub(crate) fn lookup_field_of(flags: u32, text: &[u8]) -> Option<Field<'_>>
         widening: Widening::By(scheme),
         text,
     })
-}
-
-/// What is offered: the languages of this field, or all but those of private use where it has no
-/// bytes.
-pub(crate) fn offering_of(offer: &[u8]) -> Offering<'_>
-    ensures { offers_of result ≡ offer_of offer.now }
-{
-    if offer.is_empty() {
-        Offering::Given(Offer::Public)
-    } else {
-        Offering::Field(offer)
-    }
 }
 
 /// The default of a question: an empty text is none.

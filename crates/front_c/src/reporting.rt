@@ -173,6 +173,14 @@ pub(crate) fn explained(number: u32) -> Option<Refusal>
     }
 }
 
+/// Reports that a call without an answer is done.
+pub(crate) fn report_done(told: &mut Told) -> i32
+    ensures { ReportsDone told.new result }
+{
+    *told = Told::answered(0, 0);
+    status::FOUND
+}
+
 /// Reports that there is no question: a flag is unknown, or the handle is not open.
 pub(crate) fn report_usage(told: &mut Told) -> i32
     ensures { (result ≡ usage) × (told.new ≡ answered 0 0) }
@@ -221,14 +229,6 @@ fn report_picked(picked: Picked<'_>, out: &mut [u8], told: &mut Told) -> i32
         Picked::Default(tag) => report_text(tag, 1, status::FOUND, out, told),
         Picked::Nothing => report_nothing(0, told),
     }
-}
-
-/// Reports that a call without an answer is done.
-fn report_done(told: &mut Told) -> i32
-    ensures { ReportsDone told.new result }
-{
-    *told = Told::answered(0, 0);
-    status::FOUND
 }
 
 /// Writes a text to the start of the buffer, where there is room for all of it.

@@ -19,7 +19,7 @@ pub enum Offering<'o> {
 
 impl<'o> Offering<'o> {
     /// Reads the offer. Refused is a field as [`PriorityList::from_accept`] refuses it: 8, 9, 26.
-    pub(crate) fn read(self, alloc: Global) -> Result<Offered<'o>, NegoFault>
+    pub fn read(self, alloc: Global) -> Result<Offered<'o>, NegoFault>
         ensures { MatchResult result (IsOffer (offers_of self.entry))
             (RefusesOffer (offers_of self.entry)) }
     {

@@ -3,7 +3,8 @@ use Rattle.front_core.specs.Preferences.{field_text}
 use Rattle.front_core.specs.Ask.{AnswersLookup, IsLookup, RefusesLookup}
 use Rattle.front_c.specs.Calls.{ReportsQuestion}
 use Rattle.front_c.specs.Handles.{site_of}
-use Rattle.front_c.specs.Question.{default_of, lookup_field_of, offer_of}
+use Rattle.front_c.specs.Question.{default_of, lookup_field_of}
+use Rattle.front_c.specs.Rules.{offered_by}
 use Rattle.front_c.proofs.ReportingAskedLemmas.{asked_as, field_as}
 use Rattle.front_c.proofs.sw_site_lookup.Goals as goal
 
@@ -11,7 +12,7 @@ pub returns-in-Some-clause-answer : goal.returns-in-Some-clause-answer
 returns-in-Some-clause-answer c =
     let site = site_of c.args.site.now in
     let id = c.args.id.now in
-    let offers = offer_of c.args.offer.now in
+    let offers = offered_by c.args.rules.now in
     let default = default_of c.args.default.now in
     let read = field_text c.in-Some.field in
     field_as (lookup_field_of c.args.flags c.args.field.now)
@@ -21,4 +22,4 @@ returns-in-Some-clause-answer c =
     (asked_as c.read-asked.result (IsLookup id offers read default)
     (RefusesLookup id offers read default)
     (λ asked s. AnswersLookup s.cells asked) site c.args.out.now c.ask.new.out c.ask.new.told _
-    (rw (← c.default_of.ensures, ← c.offering_of.ensures) c.read-asked.ensures) (search rules))
+    (rw (← c.default_of.ensures, ← c.offering.ensures) c.read-asked.ensures) (search rules))

@@ -3,7 +3,8 @@ use Rattle.front_core.specs.Preferences.{field_text}
 use Rattle.front_core.specs.Ask.{IsLookupText, RefusesLookup}
 use Rattle.front_c.specs.Calls.{ReportsOpen}
 use Rattle.front_c.specs.Handles.{site_of}
-use Rattle.front_c.specs.Question.{default_of, lookup_field_of, offer_of}
+use Rattle.front_c.specs.Question.{default_of, lookup_field_of}
+use Rattle.front_c.specs.Rules.{offered_by}
 use Rattle.front_c.specs.Reporting.{ReportsEither, ReportsLabelText}
 use Rattle.front_c.proofs.ReportingAskedLemmas.{field_as, open_as}
 use Rattle.front_c.proofs.sw_site_text.Goals as goal
@@ -13,7 +14,7 @@ pub returns-in-Ok-clause-answer : goal.returns-in-Ok-clause-answer
 returns-in-Ok-clause-answer c =
     let site = site_of c.args.site.now in
     let id = c.args.id.now in
-    let offers = offer_of c.args.offer.now in
+    let offers = offered_by c.args.rules.now in
     let default = default_of c.args.default.now in
     let read = field_text c.in-Some.field in
     field_as (lookup_field_of c.args.flags c.args.field.now)
@@ -29,7 +30,7 @@ returns-in-Ok-clause-answer c =
       c.text.result,
       (
         c.in-Ok.asked,
-        rw (← c.default_of.ensures, ← c.offering_of.ensures) c.in-Ok.ensures,
+        rw (← c.default_of.ensures, ← c.offering.ensures) c.in-Ok.ensures,
         rw (← c.site.ensures) c.text.ensures,
       ),
       search rules,
@@ -40,7 +41,7 @@ pub returns-in-Err-clause-answer : goal.returns-in-Err-clause-answer
 returns-in-Err-clause-answer c =
     let site = site_of c.args.site.now in
     let id = c.args.id.now in
-    let offers = offer_of c.args.offer.now in
+    let offers = offered_by c.args.rules.now in
     let default = default_of c.args.default.now in
     let read = field_text c.in-Some.field in
     field_as (lookup_field_of c.args.flags c.args.field.now)
@@ -55,6 +56,6 @@ returns-in-Err-clause-answer c =
     (inr (
       c.in-Err.fault,
       rw
-          (← c.default_of.ensures, ← c.offering_of.ensures) c.in-Err.ensures,
+          (← c.default_of.ensures, ← c.offering.ensures) c.in-Err.ensures,
       search rules,
     )))

@@ -2,7 +2,8 @@ use Rattle.std.proofs.Common.{◌≡◌, Some, inl, inr, rules, of_z, to_z, w32}
 use Rattle.front_core.specs.Ask.{AnswersFilter, IsAnswer, IsFilter, RefusesAnswer, RefusesFilter}
 use Rattle.front_core.specs.Preferences.{field_text}
 use Rattle.front_c.specs.Calls.{ReportsQuestion}
-use Rattle.front_c.specs.Question.{field_of, offer_of}
+use Rattle.front_c.specs.Question.{field_of}
+use Rattle.front_c.specs.Rules.{offered_by}
 use Rattle.front_c.specs.Reporting.{ReportsAnswer, ReportsRead}
 use Rattle.front_c.proofs.ReportingAskedLemmas.{field_as, report_as, some_as, written_as}
 use Rattle.front_c.proofs.sw_text_filter.Goals as goal
@@ -11,7 +12,7 @@ use Rattle.front_c.proofs.sw_text_filter.Goals as goal
 pub returns-in-Ok-clause-written : goal.returns-in-Ok-clause-written
 returns-in-Ok-clause-written c = λ site written.
     let id = c.args.id.now in
-    let offers = offer_of c.args.offer.now in
+    let offers = offered_by c.args.rules.now in
     let read = field_text c.in-Some.field in
     let same : to_z w32 (of_z w32 c.report.result) ≡ c.report.result = search rules in
     rw same
@@ -25,21 +26,21 @@ returns-in-Ok-clause-written c = λ site written.
     c.args.out.now c.report.new.out c.report.new.told _
     (written_as (IsFilter id offers read) (RefusesFilter id offers read)
     (λ asked s. AnswersFilter s.cells asked) c.in-Ok.filter site c.answer_in.result
-    (rw (← c.offering_of.ensures) c.in-Ok.ensures) (c.answer_in.ensures site written))
+    (rw (← c.offering.ensures) c.in-Ok.ensures) (c.answer_in.ensures site written))
     c.report.ensures))
 
 -- Whatever the text is, an answer or a refusal is reported where the arguments read as a question.
 pub returns-in-Ok-clause-read : goal.returns-in-Ok-clause-read
 returns-in-Ok-clause-read c =
     let id = c.args.id.now in
-    let offers = offer_of c.args.offer.now in
+    let offers = offered_by c.args.rules.now in
     let same : to_z w32 (of_z w32 c.report.result) ≡ c.report.result = search rules in
     rw same
     (field_as (field_of c.args.flags c.args.field.now)
     (λ f. ReportsRead (IsFilter id offers f) (RefusesFilter id offers f) ReportsAnswer)
     (field_text c.in-Some.field) c.args.out.now c.report.new.out c.report.new.told _ (search rules)
     (inl (
-      (c.in-Ok.filter, rw (← c.offering_of.ensures) c.in-Ok.ensures),
+      (c.in-Ok.filter, rw (← c.offering.ensures) c.in-Ok.ensures),
       some_as c.answer_in.result c.args.out.now c.report.new.out c.report.new.told _
           c.report.ensures,
     )))
@@ -48,25 +49,25 @@ returns-in-Ok-clause-read c =
 pub returns-in-Err-clause-written : goal.returns-in-Err-clause-written
 returns-in-Err-clause-written c = λ site written.
     let id = c.args.id.now in
-    let offers = offer_of c.args.offer.now in
+    let offers = offered_by c.args.rules.now in
     let read = field_text c.in-Some.field in
     field_as (field_of c.args.flags c.args.field.now)
     (λ f. ReportsQuestion (Some site) (IsFilter id offers f) (RefusesFilter id offers f)
     (λ asked s. AnswersFilter s.cells asked))
     read c.args.out.now c.args.out.now c.report_refusal.new.told _ (search rules)
-    (inr (c.in-Err.fault, inl (rw (← c.offering_of.ensures) c.in-Err.ensures), search rules))
+    (inr (c.in-Err.fault, inl (rw (← c.offering.ensures) c.in-Err.ensures), search rules))
 
 -- So it is whatever the text is.
 pub returns-in-Err-clause-read : goal.returns-in-Err-clause-read
 returns-in-Err-clause-read c =
     let id = c.args.id.now in
-    let offers = offer_of c.args.offer.now in
+    let offers = offered_by c.args.rules.now in
     field_as (field_of c.args.flags c.args.field.now)
     (λ f. ReportsRead (IsFilter id offers f) (RefusesFilter id offers f) ReportsAnswer)
     (field_text c.in-Some.field) c.args.out.now c.args.out.now c.report_refusal.new.told _
     (search rules) (inr (
       c.in-Err.fault,
       rw
-          (← c.offering_of.ensures) c.in-Err.ensures,
+          (← c.offering.ensures) c.in-Err.ensures,
       search rules,
     ))
