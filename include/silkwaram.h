@@ -3,7 +3,8 @@
  * docs/REFUSALS.md has each refusal by its number, docs/FORMATS.md the documents.
  *
  * Texts are bytes with a length and need no zero byte at the end. A text of length 0 may be NULL, and so may `out` if
- * `out_len` is 0. No other pointer may be NULL: not `told`, and not the handle of sw_site_free.
+ * `out_len` is 0, and the rules of a question. No other pointer may be NULL: not `told`, and not the handle of
+ * sw_site_free.
  *
  * Every call returns a status, and writes `told` whatever the status is. The answer goes to the front of `out` as it
  * is, without a zero byte after it; the rest of `out` is not touched. If the answer has more than `out_len` bytes, or
@@ -13,17 +14,17 @@
  * After each declaration stands the version that had the call first with these parameters, and what document it reads.
  * A program that was linked with an earlier form of a call is not loaded: compile it anew.
  *
- * No call prints, waits, ends the process, or keeps a pointer that it was passed. Each call is proved to answer, to
- * write and to leave what is said here. Not proved: time, stack and memory, which are measured; that an edit through
- * the only handle of a site makes no copy; that sw_site_share makes none, and that the last handle of a site frees its
- * memory, which are tried by counting and under valgrind.
+ * No call prints, waits, ends the process, or keeps a pointer that it was passed; but sw_rules_new keeps that of the
+ * offer in the rules. Each call is proved to answer, to write and to leave what is said here. Not proved: time, stack
+ * and memory, which are measured; that an edit through the only handle of a site makes no copy; that sw_site_share
+ * makes none, and that the last handle of a site frees its memory, which are tried by counting and under valgrind.
  *
  * What the caller owes, which nothing checks:
  *
- * - A text can be read, and `out`, `told` and a handle can be read and written, for their whole length.
- * - What a call writes to (`out`, `told`, a handle that is opened, shared into or freed) overlaps nothing else that is
- *   passed to the call, and no other thread touches it during the call. Of two handles of one call neither is the
- *   other, whatever the call: take a share.
+ * - A text and rules can be read, and `out`, `told` and a handle can be read and written, for their whole length.
+ * - What a call writes to (`out`, `told`, a handle that is opened, shared into or freed, rules that are made or freed)
+ *   overlaps nothing else that is passed to the call, and no other thread touches it during the call. Of two handles of
+ *   one call neither is the other, whatever the call: take a share.
  * - A handle is used by one call at a time, whatever the call; threads that work at once take a handle each, by
  *   sw_site_share. A handle passes from one thread to another by a lock, or by a thread's start or end. It is not
  *   copied: two copies count as one handle, and only one of them may be used from then on.
@@ -122,12 +123,28 @@ int32_t sw_site_open(const uint8_t *text, size_t text_len, sw_site *site, sw_tol
 /* ---- What readers are offered.
  *
  * A site has more than is published: notes of translators in languages of private use (x-note), a translation that is
- * not done yet. So each question of a reader takes an `offer`. It is answered as that question of the site without the
- * labels that are not offered; a default is answered only if it is offered too.
- * An offer of length 0 stands for `*, x;q=0`: all languages but those of private use. Any other is a field that is read
- * as an Accept-Language field is, without SW_LENIENT. It offers a language if filtering by it takes the language (RFC
- * 4647 section 3.3.1): `*` all, `en, fr` these and what they begin, `*, ja;q=0` all but Japanese. Labels without a
- * language, `@none`, are always offered. */
+ * not done yet. So each question of a reader takes `rules`, which say what is offered. It is answered as that question
+ * of the site without the labels that are not offered; a default is answered only if it is offered too.
+ * The rules have an offer. One of length 0 stands for `*, x;q=0`: all languages but those of private use. Any other is
+ * a field that is read as an Accept-Language field is, without SW_LENIENT. It offers a language if filtering by it
+ * takes the language (RFC 4647 section 3.3.1): `*` all, `en, fr` these and what they begin, `*, ja;q=0` all but
+ * Japanese. Labels without a language, `@none`, are always offered.
+ * The rules borrow the text of their offer: it is yours, and stays as it is while the rules are used. Any threads may
+ * ask by the same rules at once. Rules of zeros (`sw_rules rules = {0};`), and NULL in their place, have an offer of
+ * length 0. */
+typedef struct sw_rules {
+  const uint8_t *offer;
+  size_t offer_len;
+} sw_rules;
+
+/* Makes the rules of an offer. A question refuses the offer of rules that you made without this call.
+ *   SW_FOUND       done
+ *   SW_REFUSED     the offer (8, 9); `rules` stay as they are
+ *   SW_NO_MEMORY   `rules` stay as they are */
+int32_t sw_rules_new(const uint8_t *offer, size_t offer_len, sw_rules *rules, sw_told *told); /* since 0.4 */
+
+/* Leaves rules with an offer of length 0, which borrow nothing. */
+void sw_rules_free(sw_rules *rules); /* since 0.4 */
 
 /* The label of a message that a reader gets (RFC 4647 section 3.4), over the languages that are offered and in which
  * the message has one.
@@ -139,27 +156,27 @@ int32_t sw_site_open(const uint8_t *text, size_t text_len, sw_site *site, sw_tol
  *   SW_REFUSED   first the id (10, also if it is not UTF-8), then the default (1 to 4), then the offer and
  *                the field (8, 9)
  * A message that the site does not have is SW_NOTHING. */
-int32_t sw_site_lookup(sw_site *site, const uint8_t *offer, size_t offer_len, uint32_t flags, const uint8_t *id,
-                       size_t id_len, const uint8_t *field, size_t field_len, const uint8_t *dflt, size_t dflt_len,
-                       uint8_t *out, size_t out_len, sw_told *told); /* since 0.4 */
+int32_t sw_site_lookup(sw_site *site, const sw_rules *rules, uint32_t flags, const uint8_t *id, size_t id_len,
+                       const uint8_t *field, size_t field_len, const uint8_t *dflt, size_t dflt_len, uint8_t *out,
+                       size_t out_len, sw_told *told); /* since 0.4 */
 
 /* One text of the label that sw_site_lookup finds, as it is: UTF-8, without quotes and without an LF. A label has 1 to
  * 64 texts, each of at most 65,535 bytes, and mostly one: that at `place` 0. told->count is how many the label has.
  *   SW_FOUND     a label is found and has a text at this place
  *   SW_NOTHING   no label is found, or it has no text there (told->count says which); told->len is 0
  *   SW_USAGE, SW_REFUSED   as sw_site_lookup */
-int32_t sw_site_text(sw_site *site, const uint8_t *offer, size_t offer_len, uint32_t flags, const uint8_t *id,
-                     size_t id_len, const uint8_t *field, size_t field_len, const uint8_t *dflt, size_t dflt_len,
-                     size_t place, uint8_t *out, size_t out_len, sw_told *told); /* since 0.4 */
+int32_t sw_site_text(sw_site *site, const sw_rules *rules, uint32_t flags, const uint8_t *id, size_t id_len,
+                     const uint8_t *field, size_t field_len, const uint8_t *dflt, size_t dflt_len, size_t place,
+                     uint8_t *out, size_t out_len, sw_told *told); /* since 0.4 */
 
 /* The labels of a message that a reader takes, best first (RFC 4647 section 3.3). The answer has the lines of the
  * command `filter`, with their LFs: `filter N`, then N lines `LANGUAGE WEIGHT LABEL`, the weight in thousandths.
  *   SW_FOUND     there is at least one
  *   SW_NOTHING   there is none; the answer is the line `filter 0`
  *   SW_USAGE, SW_REFUSED   as sw_site_lookup, without the default */
-int32_t sw_site_filter(sw_site *site, const uint8_t *offer, size_t offer_len, uint32_t flags, const uint8_t *id,
-                       size_t id_len, const uint8_t *field, size_t field_len, uint8_t *out, size_t out_len,
-                       sw_told *told); /* since 0.4 */
+int32_t sw_site_filter(sw_site *site, const sw_rules *rules, uint32_t flags, const uint8_t *id, size_t id_len,
+                       const uint8_t *field, size_t field_len, uint8_t *out, size_t out_len, sw_told *told);
+                       /* since 0.4 */
 
 /* The same three questions to the document of a site where it lies, which is not opened: `text` is what sw_site_write or
  * `lexicat` writes for the site, with its last LF or without, of any length, for example a mapped file. The rows of the
@@ -175,17 +192,15 @@ int32_t sw_site_filter(sw_site *site, const uint8_t *offer, size_t offer_len, ui
  * reads outside of `text`, whatever its bytes are.
  * Replace a mapped file by a new one that is renamed to it, as lexicat-file does, and never write into it: if it is cut
  * while it is mapped, the system ends the process (SIGBUS). */
-int32_t sw_text_lookup(const uint8_t *text, size_t text_len, const uint8_t *offer, size_t offer_len,
-                       uint32_t flags, const uint8_t *id, size_t id_len, const uint8_t *field, size_t field_len,
-                       const uint8_t *dflt, size_t dflt_len, uint8_t *out, size_t out_len, sw_told *told);
-                       /* since 0.4, reads a site document */
-int32_t sw_text_text(const uint8_t *text, size_t text_len, const uint8_t *offer, size_t offer_len, uint32_t flags,
-                     const uint8_t *id, size_t id_len, const uint8_t *field, size_t field_len, const uint8_t *dflt,
-                     size_t dflt_len, size_t place, uint8_t *out, size_t out_len, sw_told *told);
-                     /* since 0.4, reads a site document */
-int32_t sw_text_filter(const uint8_t *text, size_t text_len, const uint8_t *offer, size_t offer_len,
-                       uint32_t flags, const uint8_t *id, size_t id_len, const uint8_t *field, size_t field_len,
+int32_t sw_text_lookup(const uint8_t *text, size_t text_len, const sw_rules *rules, uint32_t flags, const uint8_t *id,
+                       size_t id_len, const uint8_t *field, size_t field_len, const uint8_t *dflt, size_t dflt_len,
                        uint8_t *out, size_t out_len, sw_told *told); /* since 0.4, reads a site document */
+int32_t sw_text_text(const uint8_t *text, size_t text_len, const sw_rules *rules, uint32_t flags, const uint8_t *id,
+                     size_t id_len, const uint8_t *field, size_t field_len, const uint8_t *dflt, size_t dflt_len,
+                     size_t place, uint8_t *out, size_t out_len, sw_told *told); /* since 0.4, reads a site document */
+int32_t sw_text_filter(const uint8_t *text, size_t text_len, const sw_rules *rules, uint32_t flags, const uint8_t *id,
+                       size_t id_len, const uint8_t *field, size_t field_len, uint8_t *out, size_t out_len,
+                       sw_told *told); /* since 0.4, reads a site document */
 
 /* All labels of one reader: of each message the label that sw_site_lookup finds, under its language. The answer is the
  * JSON document of the command `bundle` with its LF: language maps, as {"greeting":{"fr":"Bonjour"}}.
@@ -194,9 +209,25 @@ int32_t sw_text_filter(const uint8_t *text, size_t text_len, const uint8_t *offe
  *   SW_FOUND     there is at least one label
  *   SW_NOTHING   there is none; the answer is the line `{}`
  *   SW_USAGE, SW_REFUSED   as sw_site_lookup, without the id */
-int32_t sw_site_bundle(sw_site *site, const uint8_t *offer, size_t offer_len, uint32_t flags, const uint8_t *field,
-                       size_t field_len, const uint8_t *dflt, size_t dflt_len, uint8_t *out, size_t out_len,
-                       sw_told *told); /* since 0.4 */
+int32_t sw_site_bundle(sw_site *site, const sw_rules *rules, uint32_t flags, const uint8_t *field, size_t field_len,
+                       const uint8_t *dflt, size_t dflt_len, uint8_t *out, size_t out_len, sw_told *told);
+                       /* since 0.4 */
+
+/* The library itself takes no NULL for `rules`, and these macros pass it rules of zeros then. (So does whoever calls it
+ * from another language, or through a pointer.) */
+static inline const sw_rules *sw_rules_or_none(const sw_rules *rules) {
+  static const sw_rules none = {NULL, 0};
+  return rules ? rules : &none;
+}
+#define SW_ASK_SITE(call, site, rules, ...) call(site, sw_rules_or_none(rules), __VA_ARGS__)
+#define SW_ASK_TEXT(call, text, text_len, rules, ...) call(text, text_len, sw_rules_or_none(rules), __VA_ARGS__)
+#define sw_site_lookup(...) SW_ASK_SITE(sw_site_lookup, __VA_ARGS__)
+#define sw_site_text(...) SW_ASK_SITE(sw_site_text, __VA_ARGS__)
+#define sw_site_filter(...) SW_ASK_SITE(sw_site_filter, __VA_ARGS__)
+#define sw_site_bundle(...) SW_ASK_SITE(sw_site_bundle, __VA_ARGS__)
+#define sw_text_lookup(...) SW_ASK_TEXT(sw_text_lookup, __VA_ARGS__)
+#define sw_text_text(...) SW_ASK_TEXT(sw_text_text, __VA_ARGS__)
+#define sw_text_filter(...) SW_ASK_TEXT(sw_text_filter, __VA_ARGS__)
 
 /* ---- Sites that are made and edited.
  *

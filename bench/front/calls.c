@@ -15,7 +15,7 @@ static void pick(void) {
     exit(1);
 }
 
-#define QUESTION &site, NULL, 0, 0, BYTES("message-777"), BYTES("de-CH, fr;q=0.5"), BYTES("en")
+#define QUESTION &site, NULL, 0, BYTES("message-777"), BYTES("de-CH, fr;q=0.5"), BYTES("en")
 
 static void lookup(void) {
   if (sw_site_lookup(QUESTION, out, ROOM, &told)) exit(1);

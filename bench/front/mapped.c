@@ -14,7 +14,7 @@ static size_t document_len;
 static size_t find(const char *id, size_t len) {
   static uint8_t out[ROOM];
   sw_told told;
-  if (sw_text_text(document, document_len, NULL, 0, 0, (const uint8_t *)id, len, BYTES("fr-CA, en;q=0.5"), NULL, 0, 0,
+  if (sw_text_text(document, document_len, NULL, 0, (const uint8_t *)id, len, BYTES("fr-CA, en;q=0.5"), NULL, 0, 0,
                    out, ROOM, &told))
     return 0;
   return told.len;

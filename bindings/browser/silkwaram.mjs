@@ -30,8 +30,9 @@ const CALLS = JSON.parse(String.raw`@CALLS@`);
 // What becomes of a parameter that is no text, by its kind.
 const NUMBERS = { uint32_t: Number, uint64_t: BigInt, size_t: BigInt, sw_site: BigInt };
 
-// Bytes of `sw_told` and of a handle, and of the room that is kept for the texts and the answer of a call.
+// Bytes of `sw_told`, of `sw_rules` and of a handle, and of the room for the texts and the answer of a call.
 const TOLD = 40;
+const RULES = 16;
 const HANDLE = 8;
 const ROOM = 32768;
 const LARGEST_MOMENT = 2n ** 64n - 1n;
@@ -322,7 +323,7 @@ class Module {
 
   constructor(exports) {
     this.#exports = exports;
-    this.#room = this.#allocated(TOLD + ROOM);
+    this.#room = this.#allocated(TOLD + RULES + ROOM);
   }
 
   #allocated(bytes) {
@@ -344,7 +345,7 @@ class Module {
 
   // Runs a function with room for so many bytes: that which is kept, where it is enough.
   #within(bytes, used) {
-    if (bytes <= ROOM) return used(this.#room + TOLD, ROOM);
+    if (bytes <= ROOM) return used(this.#room + TOLD + RULES, ROOM);
     const at = this.#allocated(bytes);
     try {
       return used(at, bytes);
@@ -376,7 +377,15 @@ class Module {
     const placed = [];
     for (const [kind, it] of CALLS[name].parameters) {
       if (kind === 'room' || kind === 'sw_told') break;
-      if (kind !== 'text') {
+      if (kind === 'sw_rules') {
+        // (rules are given by the text of their offer)
+        const count = this.#put(given[it], at);
+        const rules = new DataView(this.#exports.memory, this.#room + TOLD, RULES);
+        rules.setBigUint64(0, BigInt(at), true);
+        rules.setBigUint64(8, BigInt(count), true);
+        placed.push(BigInt(rules.byteOffset));
+        at += count;
+      } else if (kind !== 'text') {
         placed.push(NUMBERS[kind](given[it]));
       } else if (given[it] instanceof Kept) {
         placed.push(given[it].at, given[it].length);
@@ -427,7 +436,7 @@ class Module {
   // What a call says of a number of a refusal, or null.
   #said(name, number) {
     if (this.#exports.hasStopped || !this.#room) return null;
-    const at = this.#room + TOLD;
+    const at = this.#room + TOLD + RULES;
     const status = this.#exports.run(name, number, BigInt(at), BigInt(ROOM), BigInt(this.#room));
     return status === FOUND ? DECODER.decode(this.#exports.bytes(at, this.#told().length)) : null;
   }
@@ -486,7 +495,7 @@ function refusedAsName(calls, refused, text) {
 // What a lookup of a site is asked beside the message.
 function lookupOf(field, options) {
   const given = optionsOf(options);
-  return { offer: offerOf(given), flags: lookupFlagsOf(given), field: fieldOf(field), dflt: defaultOf(given) };
+  return { rules: offerOf(given), flags: lookupFlagsOf(given), field: fieldOf(field), dflt: defaultOf(given) };
 }
 
 // Makes the call that ends with this name, of a site or of a document, and returns the text that it answers, or null.
@@ -509,7 +518,7 @@ class Asked {
 
   filter(id, field, options) {
     const given = optionsOf(options);
-    const lines = this[ask]('filter', { offer: offerOf(given), flags: flagsOf(given), id, field: fieldOf(field) });
+    const lines = this[ask]('filter', { rules: offerOf(given), flags: flagsOf(given), id, field: fieldOf(field) });
     return lines === null ? [] : linesIn(lines).map(choiceOf);
   }
 
@@ -531,7 +540,7 @@ function writtenSiteClass(calls) {
       forgotten.register(this, this.#kept, this);
       try {
         // (what is no document is refused by any question)
-        this[ask]('filter', { offer: '', flags: 0, id: 'm', field: '*' });
+        this[ask]('filter', { rules: '', flags: 0, id: 'm', field: '*' });
       } catch (refused) {
         this.close();
         throw refusedAsName(calls, refused, text);

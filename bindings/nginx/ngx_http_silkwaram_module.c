@@ -409,12 +409,17 @@ ngx_http_silkwaram_text(ngx_http_silkwaram_loc_conf_t *conf,
     ngx_http_silkwaram_label_t *label, ngx_str_t *field, u_char *out,
     size_t len, sw_told *told)
 {
+    sw_rules    rules;
     ngx_str_t  *dflt;
 
     dflt = ngx_http_silkwaram_label_default(conf, label);
 
-    return sw_text_text(conf->labels.data, conf->labels.len,
-                        conf->offer.data, conf->offer.len,
+    /* (the directive has read the offer) */
+
+    rules.offer = conf->offer.data;
+    rules.offer_len = conf->offer.len;
+
+    return sw_text_text(conf->labels.data, conf->labels.len, &rules,
                         ngx_http_silkwaram_flags(conf),
                         label->id.data, label->id.len,
                         field->data, field->len, dflt->data, dflt->len, 0,
@@ -1222,7 +1227,7 @@ ngx_http_silkwaram_label(ngx_conf_t *cf, ngx_command_t *cmd, void *conf)
     label->id = value[2];
 
     if (sw_text_text(ngx_http_silkwaram_empty_site.data,
-                     ngx_http_silkwaram_empty_site.len, NULL, 0, 0,
+                     ngx_http_silkwaram_empty_site.len, NULL, 0,
                      label->id.data, label->id.len, NULL, 0, NULL, 0, 0,
                      NULL, 0, &told)
         != SW_NOTHING)

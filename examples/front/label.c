@@ -46,7 +46,7 @@ static void print_refusal(const sw_told *refused) {
 /* Asks for the first text of the label: without what is malformed of the field, and a language finds its regions. */
 static int32_t ask(sw_site *site, const char *id, const char *field, const char *dflt, uint8_t *out, size_t room,
                    sw_told *told) {
-  return sw_site_text(site, NULL, 0, SW_LENIENT | SW_WIDEN, bytes(id), strlen(id), bytes(field), strlen(field),
+  return sw_site_text(site, NULL, SW_LENIENT | SW_WIDEN, bytes(id), strlen(id), bytes(field), strlen(field),
                       bytes(dflt), strlen(dflt), 0, out, room, told);
 }
 

@@ -32,13 +32,13 @@ static int32_t ask(char **words, uint8_t *out, size_t room, sw_told *told) {
   else if (!strcmp(call, "pick"))
     status = sw_pick(flags, BYTES(one), BYTES(two), BYTES(three), out, room, told);
   else if (!strcmp(call, "lookup"))
-    status = sw_site_lookup(&site, BYTES(offer), flags, BYTES(one), BYTES(two), BYTES(three), out, room, told);
+    status = sw_site_lookup(&site, RULES(offer), flags, BYTES(one), BYTES(two), BYTES(three), out, room, told);
   else if (!strcmp(call, "text"))
-    status = sw_site_text(&site, BYTES(offer), flags, BYTES(one), BYTES(two), BYTES(three), place, out, room, told);
+    status = sw_site_text(&site, RULES(offer), flags, BYTES(one), BYTES(two), BYTES(three), place, out, room, told);
   else if (!strcmp(call, "filter"))
-    status = sw_site_filter(&site, BYTES(offer), flags, BYTES(one), BYTES(two), out, room, told);
+    status = sw_site_filter(&site, RULES(offer), flags, BYTES(one), BYTES(two), out, room, told);
   else if (!strcmp(call, "bundle"))
-    status = sw_site_bundle(&site, BYTES(offer), flags, BYTES(one), BYTES(two), out, room, told);
+    status = sw_site_bundle(&site, RULES(offer), flags, BYTES(one), BYTES(two), out, room, told);
   free(one.bytes);
   free(two.bytes);
   free(three.bytes);

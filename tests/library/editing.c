@@ -31,7 +31,7 @@ static int is_put(sw_site *site, const char *id, uint64_t now, unsigned long num
 static long number_of(sw_site *site, const char *id) {
   uint8_t out[ROOM];
   sw_told told;
-  if (sw_site_text(site, NULL, 0, 0, (const uint8_t *)id, strlen(id), BYTES(T("en")), NULL, 0, 0, out, ROOM - 1, &told))
+  if (sw_site_text(site, NULL, 0, (const uint8_t *)id, strlen(id), BYTES(T("en")), NULL, 0, 0, out, ROOM - 1, &told))
     return -1;
   out[told.len] = 0;
   return strtol((const char *)out, NULL, 10);

@@ -54,7 +54,7 @@ static void long_texts(void) {
   DONE(sw_site_put(&site, 6, BYTES(T("n")), BYTES(T("en")), label, most + 1, &told), refused_with(11, 0));
   HAS(&site, ENGLISH);
   DONE(sw_site_put(&site, 6, BYTES(T("n")), BYTES(T("en")), label, most, &told), done);
-  ROW(0, sw_site_text(&site, NULL, 0, 0, BYTES(T("n")), BYTES(T("en")), NULL, 0, 0, NULL, 0, &told),
+  ROW(0, sw_site_text(&site, NULL, 0, BYTES(T("n")), BYTES(T("en")), NULL, 0, 0, NULL, 0, &told),
       (wanted){SW_FOUND, {.len = most, .count = 1}, ""});
   free(label);
   sw_site_free(&site);

@@ -1,5 +1,5 @@
 #!/usr/bin/env bash
-# Compiles the headers under all warnings, each alone, as C99 and C11, and as C++98 and C++17, where
+# Compiles the headers under all warnings, each alone, as C99 and C11, and as C++11 and C++17, where
 # the calls have the names of C. Needed: a C compiler (CC, or cc), and one of C++ (CXX, or c++),
 # with Python.
 cd "$(dirname "$0")/../.." || exit 1
@@ -36,7 +36,7 @@ have_names_of_c() { # each call, where C++ refers to it
 }
 
 headers_as "$cc" c c99 c11
-headers_as "$cxx" c++ c++98 c++17
+headers_as "$cxx" c++ c++11 c++17
 if is_there "$cxx" && is_there python3; then
     check 'the names of the calls in C++' have_names_of_c
 else

@@ -17,6 +17,8 @@ typedef struct {
 /* The text of a literal, zero bytes inside too. */
 #define T(literal) ((text){(uint8_t *)(literal), sizeof(literal) - 1})
 #define NO_TEXT ((text){NULL, 0})
+/* Rules with an offer, which is not read before it is asked by. */
+#define RULES(offer) (&(sw_rules){BYTES(offer)})
 
 enum { UNTOUCHED = 0xA5 };
 

@@ -24,9 +24,11 @@ enum { ROOM = 1024 };
 
 static unsigned long all_allocations;
 
-/* A site, a share of it, another site twice, and what a call ended with. `given` is what sw_site_share writes to. */
+/* A site, a share of it, another site twice, and what a call ended with. `given` is what sw_site_share writes to, and
+ * `rules` what sw_rules_new does. */
 typedef struct {
   sw_site site, share, other, given;
+  sw_rules rules;
   int32_t status;
   sw_told told;
   uint8_t out[ROOM];
@@ -95,13 +97,15 @@ static void shares(trial *it) {
 }
 
 /* Questions about the message `m`, to the site and to a document where it lies. */
-#define LOOKED_UP BYTES(T("*;q=0.5, " LONG_TAG)), 0, BYTES(T("m")), BYTES(T("da, " LONG_TAG)), BYTES(T(LONG_TAG "-more"))
-#define TEXT_OF NULL, 0, SW_EXTENDED, BYTES(T("m")), BYTES(T("*-de, zh-*-CN-x-private1-private2, en")), BYTES(T("en")), 0
-#define FILTERED NULL, 0, 0, BYTES(T("m")), BYTES(T("en;q=0.5, zh-hant-cn-x-private1"))
+#define OFFER T("*;q=0.5, " LONG_TAG)
+#define LOOKED_UP RULES(OFFER), 0, BYTES(T("m")), BYTES(T("da, " LONG_TAG)), BYTES(T(LONG_TAG "-more"))
+#define TEXT_OF NULL, SW_EXTENDED, BYTES(T("m")), BYTES(T("*-de, zh-*-CN-x-private1-private2, en")), BYTES(T("en")), 0
+#define FILTERED NULL, 0, BYTES(T("m")), BYTES(T("en;q=0.5, zh-hant-cn-x-private1"))
+ACT(sw_rules_new, ASKS, BYTES(OFFER), &it->rules, TOLD)
 ACT(sw_site_lookup, ASKS, &it->site, LOOKED_UP, ANSWER)
 ACT(sw_site_text, ASKS, &it->site, TEXT_OF, ANSWER)
 ACT(sw_site_filter, ASKS, &it->site, FILTERED, ANSWER)
-ACT(sw_site_bundle, ASKS, &it->site, NULL, 0, SW_LENIENT, BYTES(T("en_US, " LONG_TAG)), BYTES(T("de")), ANSWER)
+ACT(sw_site_bundle, ASKS, &it->site, NULL, SW_LENIENT, BYTES(T("en_US, " LONG_TAG)), BYTES(T("de")), ANSWER)
 ACT(sw_text_lookup, ASKS, BYTES(T(PARIS)), LOOKED_UP, ANSWER)
 ACT(sw_text_text, ASKS, BYTES(T(PARIS)), TEXT_OF, ANSWER)
 ACT(sw_text_filter, ASKS, BYTES(T(PARIS)), FILTERED, ANSWER)
@@ -207,7 +211,7 @@ static int others_are_kept(trial *it, const document *paris, const document *osl
     share = written(&it->share);
     if (!equal(&share, paris)) return 0;
   }
-  return equal(&other, oslo) && (it->status != SW_NO_MEMORY || equal(&given, oslo));
+  return equal(&other, oslo) && (it->status != SW_NO_MEMORY || (equal(&given, oslo) && !it->rules.offer));
 }
 
 static unsigned refuse_each(unsigned of, int way) {
@@ -217,7 +221,8 @@ static unsigned refuse_each(unsigned of, int way) {
   try(CASES[of]->call, &ample, ULONG_MAX, 0);
   unsigned long count = allocations;
   document wanted = written(&ample.site);
-  unsigned wrong = ample.status != SW_FOUND || equal(&wanted, &paris) != (CASES[of]->kind == ASKS || CASES[of]->kind == FIXED);
+  int leaves = CASES[of]->kind == ASKS || CASES[of]->kind == FIXED;
+  unsigned wrong = ample.status != SW_FOUND || equal(&wanted, &paris) != leaves;
   for (unsigned long n = 1; n <= count; n++)
     for (int all = 0; all < 2; all++) {
       begin(&it, way);

@@ -61,7 +61,7 @@ static int opens(sw_site *site, text document) {
 static int answers(sw_site *site) {
   uint8_t out[ROOM];
   sw_told told;
-  return sw_site_text(site, NULL, 0, 0, BYTES(T("m12345")), BYTES(T("en")), NULL, 0, 0, out, sizeof out, &told) ==
+  return sw_site_text(site, NULL, 0, BYTES(T("m12345")), BYTES(T("en")), NULL, 0, 0, out, sizeof out, &told) ==
              SW_FOUND &&
          told.len == 5 && !memcmp(out, "Hello", 5);
 }

@@ -26,6 +26,7 @@ enum { ALLOWED = 128 * 1024, COMMAND_ALLOWED = 160 * 1024, MEASURED = 4 * ALLOWE
 #define LONG_FIELD "zh-Hant-CN-x-private1-private2;q=0.8, de-*-DE, *;q=0.1, en_US, en-GB;q=0.7, "
 
 static sw_site site, other;
+static sw_rules rules;
 static text deep;
 
 static void call_nothing(void) {}
@@ -81,13 +82,14 @@ ASKS(sw_site_missing, &site, BYTES(T("nb")))
 ASKS(sw_site_outdated, &site, BYTES(T("fr-x-a-private-tag")), BYTES(T("en")))
 ASKS(sw_site_changes, &other, &site)
 /* Questions, to the site and to a document where it lies. */
-#define OFFER BYTES(T("zh-Hant-CN-x-private1-private2;q=0.8, *;q=0.1"))
-#define LOOKED_UP OFFER, SW_LENIENT, BYTES(T("m")), BYTES(T(LONG_FIELD)), BYTES(T("en"))
-#define FILTERED OFFER, SW_EXTENDED | SW_LENIENT, BYTES(T("m")), BYTES(T(LONG_FIELD "en"))
+#define OFFER T("zh-Hant-CN-x-private1-private2;q=0.8, *;q=0.1")
+#define LOOKED_UP RULES(OFFER), SW_LENIENT, BYTES(T("m")), BYTES(T(LONG_FIELD)), BYTES(T("en"))
+#define FILTERED RULES(OFFER), SW_EXTENDED | SW_LENIENT, BYTES(T("m")), BYTES(T(LONG_FIELD "en"))
+MAKES(sw_rules_new, BYTES(OFFER), &rules)
 ASKS(sw_site_lookup, &site, LOOKED_UP)
 ASKS(sw_site_text, &site, LOOKED_UP, 0)
 ASKS(sw_site_filter, &site, FILTERED)
-ASKS(sw_site_bundle, &site, OFFER, SW_LENIENT, BYTES(T(LONG_FIELD)), BYTES(T("en")))
+ASKS(sw_site_bundle, &site, RULES(OFFER), SW_LENIENT, BYTES(T(LONG_FIELD)), BYTES(T("en")))
 ASKS(sw_text_lookup, BYTES(T(PARIS)), LOOKED_UP)
 ASKS(sw_text_text, BYTES(T(PARIS)), LOOKED_UP, 0)
 ASKS(sw_text_filter, BYTES(T(PARIS)), FILTERED)

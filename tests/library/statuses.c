@@ -1,5 +1,5 @@
 /* What each call answers to questions that the command cannot be asked, and what it leaves: unknown flags, handles that
- * are not open, bytes that are no text, room that is too small, a site that is shared or read anew, offers. */
+ * are not open, bytes that are no text, room that is too small, a site that is shared or read anew, offers, rules. */
 #include "rows.h"
 
 #define PARIS                                                                                               \
@@ -17,23 +17,23 @@
   ROW(ROOM, sw_pick(flags, BYTES(field), BYTES(tags), BYTES(dflt), ANSWER), __VA_ARGS__)
 #define OPEN(site, document, ...) ROW(0, sw_site_open(BYTES(document), site, &told), __VA_ARGS__)
 #define LOOKUP(site, flags, id, field, dflt, ...) \
-  ROW(ROOM, sw_site_lookup(site, NULL, 0, flags, BYTES(id), BYTES(field), BYTES(dflt), ANSWER), __VA_ARGS__)
+  ROW(ROOM, sw_site_lookup(site, NULL, flags, BYTES(id), BYTES(field), BYTES(dflt), ANSWER), __VA_ARGS__)
 #define LABEL_TEXT(site, flags, id, field, dflt, place, ...) \
-  ROW(ROOM, sw_site_text(site, NULL, 0, flags, BYTES(id), BYTES(field), BYTES(dflt), place, ANSWER), __VA_ARGS__)
+  ROW(ROOM, sw_site_text(site, NULL, flags, BYTES(id), BYTES(field), BYTES(dflt), place, ANSWER), __VA_ARGS__)
 #define FILTER(site, flags, id, field, ...) \
-  ROW(ROOM, sw_site_filter(site, NULL, 0, flags, BYTES(id), BYTES(field), ANSWER), __VA_ARGS__)
+  ROW(ROOM, sw_site_filter(site, NULL, flags, BYTES(id), BYTES(field), ANSWER), __VA_ARGS__)
 #define BUNDLE(site, flags, field, dflt, ...) \
-  ROW(ROOM, sw_site_bundle(site, NULL, 0, flags, BYTES(field), BYTES(dflt), ANSWER), __VA_ARGS__)
+  ROW(ROOM, sw_site_bundle(site, NULL, flags, BYTES(field), BYTES(dflt), ANSWER), __VA_ARGS__)
 /* The same question with an offer. */
 #define LOOKUP_BY(offer, site, id, field, dflt, ...) \
-  ROW(ROOM, sw_site_lookup(site, BYTES(offer), 0, BYTES(id), BYTES(field), BYTES(dflt), ANSWER), __VA_ARGS__)
+  ROW(ROOM, sw_site_lookup(site, RULES(offer), 0, BYTES(id), BYTES(field), BYTES(dflt), ANSWER), __VA_ARGS__)
 /* The questions to a document where it lies. */
 #define LOOKUP_IN(text, flags, id, field, dflt, ...) \
-  ROW(ROOM, sw_text_lookup(BYTES(text), NULL, 0, flags, BYTES(id), BYTES(field), BYTES(dflt), ANSWER), __VA_ARGS__)
+  ROW(ROOM, sw_text_lookup(BYTES(text), NULL, flags, BYTES(id), BYTES(field), BYTES(dflt), ANSWER), __VA_ARGS__)
 #define TEXT_IN(text, flags, id, field, dflt, place, ...) \
-  ROW(ROOM, sw_text_text(BYTES(text), NULL, 0, flags, BYTES(id), BYTES(field), BYTES(dflt), place, ANSWER), __VA_ARGS__)
+  ROW(ROOM, sw_text_text(BYTES(text), NULL, flags, BYTES(id), BYTES(field), BYTES(dflt), place, ANSWER), __VA_ARGS__)
 #define FILTER_IN(text, flags, id, field, ...) \
-  ROW(ROOM, sw_text_filter(BYTES(text), NULL, 0, flags, BYTES(id), BYTES(field), ANSWER), __VA_ARGS__)
+  ROW(ROOM, sw_text_filter(BYTES(text), NULL, flags, BYTES(id), BYTES(field), ANSWER), __VA_ARGS__)
 
 static void picks(void) {
   PICK(0, T("da, en-GB;q=0.8, en;q=0.7"), T("en\nfr"), NO_TEXT, answers(SW_FOUND, 0, "en"));
@@ -145,18 +145,18 @@ static void rooms(sw_site *site) {
   for (size_t room = 0; room <= strlen(line) + 1; room++) {
     begin();
     int32_t status =
-        sw_site_lookup(site, NULL, 0, 0, BYTES(T("m")), BYTES(T("fr")), NULL, 0, room ? out : NULL, room, &told);
+        sw_site_lookup(site, NULL, 0, BYTES(T("m")), BYTES(T("fr")), NULL, 0, room ? out : NULL, room, &told);
     compare(__LINE__, status, room, answers(SW_FOUND, 0, line));
   }
   text m = T("m"), ja = T("ja"), tag = T("de-CH");
   for (size_t room = 0; room <= tag.len; room++)
     ROW(room, sw_pick(0, BYTES(tag), BYTES(tag), NULL, 0, out, room, &told), answers(SW_FOUND, 0, "de-CH"));
-  ROW(7, sw_site_lookup(site, NULL, 0, 0, BYTES(m), BYTES(ja), NULL, 0, out, 7, &told),
+  ROW(7, sw_site_lookup(site, NULL, 0, BYTES(m), BYTES(ja), NULL, 0, out, 7, &told),
       answers(SW_NOTHING, 0, "nothing\n"));
-  ROW(4, sw_site_text(site, NULL, 0, 0, BYTES(m), BYTES(T("en")), NULL, 0, 0, out, 4, &told),
+  ROW(4, sw_site_text(site, NULL, 0, BYTES(m), BYTES(T("en")), NULL, 0, 0, out, 4, &told),
       answers(SW_FOUND, 2, "Hello"));
-  ROW(8, sw_site_filter(site, NULL, 0, 0, BYTES(m), BYTES(ja), out, 8, &told), answers(SW_NOTHING, 0, "filter 0\n"));
-  ROW(2, sw_site_bundle(site, NULL, 0, 0, BYTES(ja), NULL, 0, out, 2, &told), answers(SW_NOTHING, 0, "{}\n"));
+  ROW(8, sw_site_filter(site, NULL, 0, BYTES(m), BYTES(ja), out, 8, &told), answers(SW_NOTHING, 0, "filter 0\n"));
+  ROW(2, sw_site_bundle(site, NULL, 0, BYTES(ja), NULL, 0, out, 2, &told), answers(SW_NOTHING, 0, "{}\n"));
 }
 
 static void reads_anew(sw_site *site) {
@@ -241,19 +241,19 @@ static void offers(void) {
 
   LOOKUP_BY(star, &site, m, note, NO_TEXT, answers(SW_FOUND, 0, "matched x-note [\"ask Anna\"]\n"));
   LOOKUP_BY(star, &site, m, T("fr"), note, answers(SW_FOUND, 0, "default x-note [\"ask Anna\"]\n"));
-  ROW(ROOM, sw_site_text(&site, BYTES(star), 0, BYTES(m), BYTES(note), NULL, 0, 0, ANSWER),
+  ROW(ROOM, sw_site_text(&site, RULES(star), 0, BYTES(m), BYTES(note), NULL, 0, 0, ANSWER),
       answers(SW_FOUND, 1, "ask Anna"));
-  ROW(ROOM, sw_site_bundle(&site, BYTES(star), 0, BYTES(note), NULL, 0, ANSWER),
+  ROW(ROOM, sw_site_bundle(&site, RULES(star), 0, BYTES(note), NULL, 0, ANSWER),
       answers(SW_FOUND, 0, "{\"m\":{\"x-note\":\"ask Anna\"},\"n\":{\"x-note\":\"soon\"}}\n"));
-  ROW(ROOM, sw_text_lookup(BYTES(notes), BYTES(star), 0, BYTES(m), BYTES(note), NULL, 0, ANSWER),
+  ROW(ROOM, sw_text_lookup(BYTES(notes), RULES(star), 0, BYTES(m), BYTES(note), NULL, 0, ANSWER),
       answers(SW_FOUND, 0, "matched x-note [\"ask Anna\"]\n"));
-  ROW(ROOM, sw_text_text(BYTES(notes), BYTES(star), 0, BYTES(m), BYTES(note), NULL, 0, 0, ANSWER),
+  ROW(ROOM, sw_text_text(BYTES(notes), RULES(star), 0, BYTES(m), BYTES(note), NULL, 0, 0, ANSWER),
       answers(SW_FOUND, 1, "ask Anna"));
-  ROW(ROOM, sw_text_filter(BYTES(notes), BYTES(star), 0, BYTES(m), BYTES(note), ANSWER),
+  ROW(ROOM, sw_text_filter(BYTES(notes), RULES(star), 0, BYTES(m), BYTES(note), ANSWER),
       answers(SW_FOUND, 0, "filter 1\nx-note 1000 [\"ask Anna\"]\n"));
 
   text only = T("x-note, *;q=0");
-  ROW(ROOM, sw_site_filter(&site, BYTES(only), 0, BYTES(m), BYTES(star), ANSWER),
+  ROW(ROOM, sw_site_filter(&site, RULES(only), 0, BYTES(m), BYTES(star), ANSWER),
       answers(SW_FOUND, 0, "filter 1\nx-note 1000 [\"ask Anna\"]\n"));
   LOOKUP_BY(only, &site, m, T("de"), T("de"), answers(SW_NOTHING, 0, "nothing\n"));
   LOOKUP_BY(only, &site, m, T("de"), T("@none"), answers(SW_FOUND, 0, "default @none [\"\"]\n"));
@@ -263,7 +263,32 @@ static void offers(void) {
   LOOKUP_BY(T("de, e n"), &site, m, T("fr"), NO_TEXT, refused_at(9, 4));
   LOOKUP_BY(T("de;q=2"), &site, m, T("fr, e n"), NO_TEXT, refused_at(9, 0));
   LOOKUP_BY(T("de;q=2"), &site, m, T("fr"), T("a"), refused(4));
-  ROW(ROOM, sw_text_filter(BYTES(T("{}")), BYTES(T("e n")), 0, BYTES(m), BYTES(note), ANSWER), refused_at(9, 0));
+  ROW(ROOM, sw_text_filter(BYTES(T("{}")), RULES(T("e n")), 0, BYTES(m), BYTES(note), ANSWER), refused_at(9, 0));
+  sw_site_free(&site);
+}
+
+/* Rules that are made, refused and let go, beside rules of zeros. */
+static void made_rules(void) {
+  sw_site site = {0};
+  sw_rules rules = {0}, zeros = {0};
+  text m = T("m"), note = T("x-note"), commas = {block(65536), 65536};
+  wanted shown = answers(SW_FOUND, 0, "matched x-note [\"ask Anna\"]\n"), hidden = answers(SW_NOTHING, 0, "nothing\n");
+  memset(commas.bytes, ',', commas.len);
+  OPEN(&site, T(NOTES), nothing_told(SW_FOUND));
+  ROW(0, sw_rules_new(BYTES(T("fr, e n")), &rules, &told), refused_at(9, 4));
+  HOLDS(!rules.offer && !rules.offer_len);
+  ROW(0, sw_rules_new(BYTES(T("*")), &rules, &told), nothing_told(SW_FOUND));
+  ROW(0, sw_rules_new(BYTES(commas), &rules, &told), refused(8));
+  ROW(ROOM, sw_site_lookup(&site, &rules, 0, BYTES(m), BYTES(note), NULL, 0, ANSWER), shown);
+  ROW(ROOM, sw_text_lookup(BYTES(T(NOTES)), &rules, 0, BYTES(m), BYTES(note), NULL, 0, ANSWER), shown);
+  ROW(ROOM, sw_site_lookup(&site, &zeros, 0, BYTES(m), BYTES(note), NULL, 0, ANSWER), hidden);
+  /* (not by its macro, which lets NULL be rules) */
+  ROW(ROOM, (sw_site_lookup)(&site, &zeros, 0, BYTES(m), BYTES(note), NULL, 0, ANSWER), hidden);
+  sw_rules_free(&rules);
+  HOLDS(!rules.offer_len);
+  ROW(ROOM, sw_site_lookup(&site, &rules, 0, BYTES(m), BYTES(note), NULL, 0, ANSWER), hidden);
+  ROW(0, sw_rules_new(NULL, 0, &rules, &told), nothing_told(SW_FOUND));
+  free(commas.bytes);
   sw_site_free(&site);
 }
 
@@ -282,6 +307,7 @@ int main(void) {
   HOLDS(!site.held);
   shares();
   offers();
+  made_rules();
   printf("statuses: %u rows, %u wrong\n", rows, faults);
   return faults != 0;
 }

@@ -64,8 +64,8 @@ static void wrong(const char *what, const answer *it) {
 }
 
 #define SITE_OR_TEXT(name, ...)                                                 \
-  (of->site ? sw_site_##name(of->site, NULL, 0, asked.flags, __VA_ARGS__, told) \
-            : sw_text_##name(BYTES(of->document), NULL, 0, asked.flags, __VA_ARGS__, told))
+  (of->site ? sw_site_##name(of->site, NULL, asked.flags, __VA_ARGS__, told) \
+            : sw_text_##name(BYTES(of->document), NULL, asked.flags, __VA_ARGS__, told))
 
 static int32_t ask_once(const source *of, uint8_t *out, size_t room, sw_told *told) {
   memset(told, UNTOUCHED, sizeof *told);

@@ -37,7 +37,7 @@ static int is_answered(sw_site *site, unsigned message, unsigned number) {
   sw_told told;
   int id_len = snprintf(id, sizeof id, "m%03u", message);
   int len = snprintf(wanted, sizeof wanted, "matched en [\"%u of %u\"]\n", message, number);
-  int32_t status = sw_site_lookup(site, NULL, 0, 0, (const uint8_t *)id, (size_t)id_len, BYTES(T("de, en-GB;q=0.5")),
+  int32_t status = sw_site_lookup(site, NULL, 0, (const uint8_t *)id, (size_t)id_len, BYTES(T("de, en-GB;q=0.5")),
                                   NULL, 0, out, sizeof out, &told);
   return status == SW_FOUND && told.len == (size_t)len && !memcmp(out, wanted, told.len);
 }

@@ -16,9 +16,11 @@ import tap  # noqa: E402
 from rattle_sources import ROOT, read  # noqa: E402
 
 EXPORT = re.compile(r'^pub extern "C" fn (sw_\w+)\(([^)]*)\)(?: -> (\w+))?', re.M)
+LIFETIME = re.compile(r"<'\w+>|'\w+ ")
 # What the header calls the types of Rattle, and names some of which C++ has for itself.
 KINDS = {
     "&[u8]": "text", "&mut [u8]": "room", "&mut SiteHandle": "sw_site", "&mut Told": "sw_told",
+    "&Rules": "sw_rules", "&mut Rules": "sw_rules",
     "u32": "uint32_t", "u64": "uint64_t", "usize": "size_t", "i32": "int32_t", "": "void",
 }
 NAMES = {"default": "dflt", "old": "old_maps", "new": "new_maps"}
@@ -26,7 +28,7 @@ NAMES = {"default": "dflt", "old": "old_maps", "new": "new_maps"}
 
 def exported():
     """The exports, as tools/calls has the calls of the header."""
-    for name, given, result in EXPORT.findall(read("crates/front_c/src/lib.rt")):
+    for name, given, result in EXPORT.findall(LIFETIME.sub("", read("crates/front_c/src/lib.rt"))):
         words = [it.strip().split(": ") for it in given.split(",") if it.strip()]
         parameters = [[KINDS[type], NAMES.get(it, it)] for it, type in words if type != "Global"]
         yield name, (KINDS[result], parameters)

@@ -16,6 +16,12 @@ test('bundle', () => {
   assert.deepEqual(site.bundle('ja'), {});
 });
 
+test('what readers are offered', () => {
+  const site = opened({ m: { 'x-note': ['ask Anna'] } });
+  const asked = ['*', 'en', '*', ''].map((offer) => site.text('m', 'x-note', { offer }));
+  assert.deepEqual(asked, ['ask Anna', null, 'ask Anna', null]);
+});
+
 test('texts around the size of the first room for them', () => {
   const site = Site.new('paris');
   for (let size = 252; size < 260; size++) {

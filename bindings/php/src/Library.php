@@ -53,6 +53,10 @@ final class Library
     private FFI\CData $told;
     private FFI\CData $toldAt;
     private FFI\CData $room;
+    private FFI\CData $rules;
+    /** The offer of the rules, and its bytes where they are. */
+    private string $offer = '';
+    private ?FFI\CData $offered = null;
 
     /**
      * The library of this process, or of this request.
@@ -76,6 +80,7 @@ final class Library
         $this->told = $calls->new('sw_told');
         $this->toldAt = FFI::addr($this->told);
         $this->room = $calls->new('char[' . self::FIRST_ROOM . ']');
+        $this->rules = $calls->new('sw_rules');
     }
 
     private static function calls(): FFI
@@ -104,6 +109,20 @@ final class Library
     {
         return ($lenient ? self::LENIENT : 0) | ($widen ? self::WIDEN : 0)
             | ($extended ? self::EXTENDED : 0);
+    }
+
+    /** The rules of an offer, for the next call: most programs have one offer for all of them. */
+    public function rules(string $offer): FFI\CData
+    {
+        if ($offer !== $this->offer) {
+            $size = strlen($offer);
+            $this->offered = $this->calls->new('char[' . max($size, 1) . ']');
+            FFI::memcpy($this->offered, $offer, $size);
+            $this->rules->offer = $this->calls->cast('char *', FFI::addr($this->offered));
+            $this->rules->offer_len = $size;
+            $this->offer = $offer;
+        }
+        return $this->rules;
     }
 
     /** A handle that is not open. */

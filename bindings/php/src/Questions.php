@@ -116,7 +116,8 @@ abstract class Questions
     ): array {
         $flags = Library::asked($lenient, false, $extended);
         $call = static::CALLS . 'filter';
-        $lines = $this->library->ask($call, $this->held, $offer, $flags, $id, $field ?? '*');
+        $rules = $this->library->rules($offer);
+        $lines = $this->library->ask($call, $this->held, $rules, $flags, $id, $field ?? '*');
         $found = [];
         foreach (array_slice(explode("\n", $lines), 1, -1) as $line) {
             [$language, $weight, $texts] = explode(' ', $line, 3);
@@ -129,8 +130,9 @@ abstract class Questions
         return $found;
     }
 
-    private function find(string $call, string|int ...$given): ?string
+    private function find(string $call, string $offer, string|int ...$given): ?string
     {
-        return $this->library->find(static::CALLS . $call, $this->held, ...$given);
+        $rules = $this->library->rules($offer);
+        return $this->library->find(static::CALLS . $call, $this->held, $rules, ...$given);
     }
 }

@@ -4,6 +4,7 @@ declare(strict_types=1);
 
 namespace Silkwaram;
 
+use FFI\CData;
 use InvalidArgumentException;
 use JsonException;
 
@@ -92,7 +93,8 @@ final class Site extends Questions
         string $offer = ''
     ): array {
         $flags = Library::asked($lenient, $widen, $extended);
-        return $this->maps('bundle', $offer, $flags, $field ?? '*', $default);
+        $rules = $this->library->rules($offer);
+        return $this->maps('bundle', $rules, $flags, $field ?? '*', $default);
     }
 
     // What a translator or an editor asks.
@@ -333,7 +335,7 @@ final class Site extends Questions
         return json_encode($value, JSON_UNESCAPED_UNICODE | JSON_THROW_ON_ERROR);
     }
 
-    private function maps(string $call, string|int ...$given): array
+    private function maps(string $call, string|int|CData ...$given): array
     {
         return json_decode($this->library->ask("sw_site_$call", $this->held, ...$given), true);
     }

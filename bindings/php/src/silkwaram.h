@@ -4,31 +4,32 @@
 typedef struct sw_told { size_t len; size_t offset; size_t row; size_t count; uint32_t number;
     uint32_t given; } sw_told;
 typedef struct sw_site { void *held; } sw_site;
+typedef struct sw_rules { const char *offer; size_t offer_len; } sw_rules;
 uint32_t sw_version(void);
 int32_t sw_pick(uint32_t flags, const char *field, size_t field_len, const char *tags,
     size_t tags_len, const char *dflt, size_t dflt_len, char *out, size_t out_len, sw_told *told);
 int32_t sw_site_open(const char *text, size_t text_len, sw_site *site, sw_told *told);
-int32_t sw_site_lookup(sw_site *site, const char *offer, size_t offer_len, uint32_t flags,
+int32_t sw_rules_new(const char *offer, size_t offer_len, sw_rules *rules, sw_told *told);
+void sw_rules_free(sw_rules *rules);
+int32_t sw_site_lookup(sw_site *site, const sw_rules *rules, uint32_t flags, const char *id,
+    size_t id_len, const char *field, size_t field_len, const char *dflt, size_t dflt_len,
+    char *out, size_t out_len, sw_told *told);
+int32_t sw_site_text(sw_site *site, const sw_rules *rules, uint32_t flags, const char *id,
+    size_t id_len, const char *field, size_t field_len, const char *dflt, size_t dflt_len,
+    size_t place, char *out, size_t out_len, sw_told *told);
+int32_t sw_site_filter(sw_site *site, const sw_rules *rules, uint32_t flags, const char *id,
+    size_t id_len, const char *field, size_t field_len, char *out, size_t out_len, sw_told *told);
+int32_t sw_text_lookup(const char *text, size_t text_len, const sw_rules *rules, uint32_t flags,
     const char *id, size_t id_len, const char *field, size_t field_len, const char *dflt,
     size_t dflt_len, char *out, size_t out_len, sw_told *told);
-int32_t sw_site_text(sw_site *site, const char *offer, size_t offer_len, uint32_t flags,
+int32_t sw_text_text(const char *text, size_t text_len, const sw_rules *rules, uint32_t flags,
     const char *id, size_t id_len, const char *field, size_t field_len, const char *dflt,
     size_t dflt_len, size_t place, char *out, size_t out_len, sw_told *told);
-int32_t sw_site_filter(sw_site *site, const char *offer, size_t offer_len, uint32_t flags,
+int32_t sw_text_filter(const char *text, size_t text_len, const sw_rules *rules, uint32_t flags,
     const char *id, size_t id_len, const char *field, size_t field_len, char *out, size_t out_len,
     sw_told *told);
-int32_t sw_text_lookup(const char *text, size_t text_len, const char *offer, size_t offer_len,
-    uint32_t flags, const char *id, size_t id_len, const char *field, size_t field_len,
-    const char *dflt, size_t dflt_len, char *out, size_t out_len, sw_told *told);
-int32_t sw_text_text(const char *text, size_t text_len, const char *offer, size_t offer_len,
-    uint32_t flags, const char *id, size_t id_len, const char *field, size_t field_len,
-    const char *dflt, size_t dflt_len, size_t place, char *out, size_t out_len, sw_told *told);
-int32_t sw_text_filter(const char *text, size_t text_len, const char *offer, size_t offer_len,
-    uint32_t flags, const char *id, size_t id_len, const char *field, size_t field_len, char *out,
-    size_t out_len, sw_told *told);
-int32_t sw_site_bundle(sw_site *site, const char *offer, size_t offer_len, uint32_t flags,
-    const char *field, size_t field_len, const char *dflt, size_t dflt_len, char *out,
-    size_t out_len, sw_told *told);
+int32_t sw_site_bundle(sw_site *site, const sw_rules *rules, uint32_t flags, const char *field,
+    size_t field_len, const char *dflt, size_t dflt_len, char *out, size_t out_len, sw_told *told);
 int32_t sw_site_new(const char *name, size_t name_len, sw_site *site, sw_told *told);
 int32_t sw_site_put(sw_site *site, uint64_t now, const char *id, size_t id_len, const char *lang,
     size_t lang_len, const char *text, size_t text_len, sw_told *told);

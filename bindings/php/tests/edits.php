@@ -54,6 +54,8 @@ $lima = Site::new('lima');
 line([$paris->status(), $lima->status()]);
 $lima->put('m', 'es', 'Hola', 2 ** 40);
 line($lima->status());
+$lima->put('m', 'x-note', 'ask Anna', 2 ** 40);
+line(array_map(fn ($offer) => $lima->text('m', 'x-note', offer: $offer), ['*', 'es', '*', '']));
 line([Tags::pick('en', ['en-US'], widen: true), Tags::pick(null, ['en', 'fr'], 'fr'),
     Tags::filter('da, en;q=0.5', ['en', 'da', 'en-GB']), Tags::pick('*', [], 'en')]);
 line([$paris->text('m', 'ja'), $paris->filter('m', 'en;q=0.5'), $paris->bundle('ja')]);

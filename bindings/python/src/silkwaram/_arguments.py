@@ -1,11 +1,12 @@
 """Arguments as the calls of the library take them."""
 import ctypes
+import functools
 import mmap
 import operator
 import time
 from typing import Any, Iterable, List, Optional, Union
 
-from ._library import EXTENDED, LENIENT, WIDEN
+from ._library import EXTENDED, LENIENT, WIDEN, Rules
 
 # A text, or its bytes. (Other objects with the buffer protocol are taken too.)
 Text = Union[str, bytes, bytearray, memoryview, mmap.mmap]
@@ -47,9 +48,15 @@ def given_or(text: Optional[Text], without: str) -> Text:
     return without if text is None else text
 
 
-def offered(offer: Optional[Text]) -> List[Any]:
+@functools.lru_cache(maxsize=64)
+def _rules(offer: bytes) -> Rules:
+    """The rules of an offer, which keep its text. They are made once for many questions."""
+    return Rules(offer, len(offer))
+
+
+def offered(offer: Optional[Text]) -> Rules:
     """What readers are offered, as the calls take it: no text is all but private use."""
-    return words(offer=given_or(offer, ""))
+    return _rules(_bytes("offer", given_or(offer, "")))
 
 
 def lines(tags: Iterable[str]) -> str:

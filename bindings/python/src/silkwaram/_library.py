@@ -34,6 +34,12 @@ class Handle(ctypes.Structure):
     _fields_ = [("held", c_void_p)]
 
 
+class Rules(ctypes.Structure):
+    """What readers are offered."""
+
+    _fields_ = [("offer", c_char_p), ("offer_len", c_size_t)]
+
+
 class Answer(NamedTuple):
     """What a call of this name answered."""
 
@@ -51,6 +57,7 @@ _TAKEN: Dict[str, List[Any]] = {
     "text": [c_char_p, c_size_t],
     "room": [c_char_p, c_size_t],
     "sw_site": [POINTER(Handle)],
+    "sw_rules": [POINTER(Rules)],
     "sw_told": [POINTER(Told)],
 }
 _RESULTS = {"int32_t": c_int32, "uint32_t": c_uint32, "void": None}

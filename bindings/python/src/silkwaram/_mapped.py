@@ -141,7 +141,7 @@ class MappedSite(Questions):
         """Whether a first question to a file is answered; if not, each question raises its
         fault."""
         try:
-            asked = [*offered(None), 0, *words(id="-", field="*", default="")]
+            asked = [offered(None), 0, *words(id="-", field="*", default="")]
             self._ask_file(file, self._calls.lookup, *asked)
         except ValueError as fault:
             file.fault = fault.with_traceback(None)

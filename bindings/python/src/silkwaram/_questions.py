@@ -52,7 +52,7 @@ class Questions:
         """
         texts = words(id=id, field=given_or(field, "*"), default=given_or(default, ""))
         how = flags(extended, lenient, widen)
-        answer = self._ask(self._calls.lookup, *offered(offer), how, *texts)
+        answer = self._ask(self._calls.lookup, offered(offer), how, *texts)
         return None if answer.status == NOTHING else _answers.label(answer.text.decode())
 
     def text(
@@ -70,7 +70,7 @@ class Questions:
         """Returns the text at a place, from 0, of the label that `lookup` finds, or None."""
         texts = words(id=id, field=given_or(field, "*"), default=given_or(default, ""))
         how = flags(extended, lenient, widen)
-        asked = [*offered(offer), how, *texts, counted_place(place)]
+        asked = [offered(offer), how, *texts, counted_place(place)]
         answer = self._ask(self._calls.text, *asked)
         return None if answer.status == NOTHING else answer.text.decode()
 
@@ -105,7 +105,7 @@ class Questions:
         """
         texts = words(id=id, field=given_or(field, "*"))
         how = flags(extended, lenient)
-        answer = self._ask(self._calls.filter, *offered(offer), how, *texts)
+        answer = self._ask(self._calls.filter, offered(offer), how, *texts)
         return _answers.choices(answer.text.decode())
 
     def _ask(self, call: Any, *given: Any) -> Answer:

@@ -145,7 +145,7 @@ class Site(Questions):
         """
         texts = words(field=given_or(field, "*"), default=given_or(default, ""))
         how = flags(extended, lenient, widen)
-        return self._maps(library.sw_site_bundle, *offered(offer), how, *texts)
+        return self._maps(library.sw_site_bundle, offered(offer), how, *texts)
 
     # What a translator or an editor asks.
 
