@@ -38,7 +38,7 @@ _lexicat() {
         bundle) options='--offer --scheme --lenient --widen --default --help -h' ;;
         summary) options='--labels --help -h' ;;
         take | sync | merge) options='--not-after --check-own --help -h' ;;
-        explain) options='1 2 3 4 5 6 7 8 9 10 11 12 13 14 15 16 17 18 19 20 21 22 23 24 25 26 27 28 29 30 --help -h' ;;
+        explain) options='1 2 3 4 5 6 7 8 9 10 11 12 13 14 15 16 17 18 19 20 21 22 23 24 25 26 27 28 29 30 tag-empty tag-too-long subtag-malformed tag-malformed range-empty range-too-long range-malformed field-too-long field-malformed id-invalid text-too-long text-count duplicate-timestamp clock-exhausted wrong-addressee unknown-site unknown-post not-utf8 not-json wrong-shape wrong-order repeated-language too-large read-error write-error out-of-memory site-name-invalid unknown-version clock-ahead own-edit-missing --help -h' ;;
         help) options=$commands ;;
         *) return ;;
     esac

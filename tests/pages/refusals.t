@@ -1,13 +1,13 @@
 #!/usr/bin/env python3
-"""Sees that each refusal has one number and one text wherever it is written down.
+"""Sees that each refusal has one number, one word and one text wherever it is written down.
 
 Compared are: the sections of docs/REFUSALS.md; the faults of the sources (crates/*/src/*fault*.rt,
 the text of each variant with the number that it answers); the text that
 crates/front_core/src/refusal.rt has for the library, which is that of the page, or the one that the
-page names under "The library"; what is wanted, the cause and what to do as that file has them, with
-which the lines of a section have to begin; and the items of DIAGNOSTICS in man/lexicat.1, each of
-which is a text, what is wanted and what to do. The numbers are 1 to 30, each once. It reads files,
-and needs Python alone.
+page names under "The library"; the word, what is wanted, the cause and what to do as that file has
+them, with which the lines of a section have to begin; and the items of DIAGNOSTICS in
+man/lexicat.1, each of which is a number, a word, a text, what is wanted and what to do. The numbers
+are 1 to 30, each once. It reads files, and needs Python alone.
 """
 import os
 import re
@@ -22,9 +22,8 @@ import tap  # noqa: E402
 PAGE = "docs/REFUSALS.md"
 MANUAL = "man/lexicat.1"
 EXPLAINED = "crates/front_core/src/refusal.rt"
-OF_LANGUAGES = "crates/lang_core/src/fault.rt"
-PARTS = ("what is wanted", "cause", "what to do")
-SECTION = re.compile(r"^### (\d+), .+\n\n(.+)\n\n- \*\*Rule:\*\* (.+)\n- \*\*Cause:\*\* (.+)\n"
+PARTS = ("the word", "what is wanted", "cause", "what to do")
+SECTION = re.compile(r"^### (\d+), .+\n\n`([a-z0-9-]+)`: (.+)\n\n- \*\*Rule:\*\* (.+)\n- \*\*Cause:\*\* (.+)\n"
                      r"- \*\*What to do:\*\* (.+)$", re.M)
 ALL = set(range(1, 31))
 ERROR = re.compile(r'#\[error\("([^"]*)"(?:, (.*))?\)\]')
@@ -33,15 +32,15 @@ fault = faults.append
 
 
 def sections(page):
-    """The number of each section, its text, what is wanted, the cause and what to do."""
-    for number, *parts in SECTION.findall(page):
-        yield int(number), parts
+    """The number of each section, its word, its text, what is wanted, the cause and what to do."""
+    for number, word, *parts in SECTION.findall(page):
+        yield int(number), word, parts
 
 
 def page_texts(page):
     """The texts of the page, the one for runs (a second text, which is appended) among them."""
     texts = {}
-    for number, parts in sections(page):
+    for number, _, parts in sections(page):
         quoted = re.findall(r"`([^`]+)`", parts[0])
         if number in texts:
             fault(f"{PAGE}: {number} has two sections")
@@ -107,27 +106,15 @@ def joined(text):
     return re.sub(r"\\\n +", "", text)
 
 
-def meanings_of_languages():
-    """What each fault of a tag or range says that is wanted."""
-    source = rattle.read(OF_LANGUAGES).split("pub fn meaning", 1)[-1]
-    arms = re.findall(r'LangFault::(\w+)(?: \{ \.\. \})? => (?:\{\s+)?"([^"]*)"', source)
-    return {name: joined(text) for name, text in arms}
-
-
 def explained_texts():
-    """The text of each number, what is wanted, the cause and what to do, as the source has them."""
-    of_languages = meanings_of_languages()
-    arms = re.findall(
-        r'^ +(\d+) => Refusal \{\s+text: "([^"]*)",'
-        r'\s+meaning: (?:LangFault::(\w+)[^,]*\.meaning\(\)|"([^"]*)"),'
+    """The text of each number, its word, what is wanted, the cause and what to do, by the source."""
+    rows = re.findall(
+        r'^ +// (\d+)\n +Refusal \{\s+code: "([^"]*)",\s+text: "([^"]*)",\s+meaning: "([^"]*)",'
         r'\s+cause: "([^"]*)",\s+remedy: "([^"]*)",\s+\},', rattle.read(EXPLAINED), re.M)
-    texts = {}
-    for number, text, of_language, meaning, cause, remedy in arms:
-        wanted = of_languages.get(of_language) if of_language else joined(meaning)
-        texts[int(number)] = (joined(text), wanted, joined(cause), joined(remedy))
-    if [int(number) for number, *_ in arms] != sorted(ALL):
+    if [int(number) for number, *_ in rows] != sorted(ALL):
         fault(f"{EXPLAINED}: the numbers are not 1 to {max(ALL)}, each once and in order")
-    return texts
+    return {int(number): (joined(text), word, joined(meaning), joined(cause), joined(remedy))
+            for number, word, text, meaning, cause, remedy in rows}
 
 
 def check_library(page, written, explained):
@@ -149,8 +136,8 @@ def plain(part):
 
 def check_explained(page, texts):
     """The parts of the sections begin with the texts of the source."""
-    for number, (_, *parts) in sections(page):
-        for name, part, text in zip(PARTS, parts, texts.get(number, ())[1:]):
+    for number, word, (_, *parts) in sections(page):
+        for name, part, text in zip(PARTS, [word, *parts], texts.get(number, ())[1:]):
             if not re.match(re.escape(text) + r"($|;| \()", plain(part)):
                 fault(f"{PAGE}: {name} of {number} does not begin with '{text}'")
 
@@ -164,15 +151,17 @@ def words_of(text):
 def check_manual(texts, explained):
     """The manual's items are the page's sections, with what is wanted and what to do."""
     text = rattle.read(MANUAL).split(".Sh DIAGNOSTICS")[-1].split("\n.Sh ")[0].split("\n.El")[0]
-    items = re.findall(r"^\.It (\d+)\n\.Sy (.*?) \.\n((?:(?!\.It ).*(?:\n|$))*)", text, re.M)
-    listed = {int(number): (item, body) for number, item, body in items}
-    if sorted(int(number) for number, _, _ in items) != sorted(ALL):
+    items = re.findall(r"^\.It (\d+) (\S+)\n\.Sy (.*?) \.\n((?:(?!\.It ).*(?:\n|$))*)", text, re.M)
+    listed = {int(number): (word, item, body) for number, word, item, body in items}
+    if sorted(int(number) for number, *_ in items) != sorted(ALL):
         lacking = sorted(ALL - set(listed))
         fault(f"{MANUAL}: the items are not 1 to {max(ALL)}, each once (not there: {lacking})")
-    for number, (item, body) in sorted(listed.items()):
+    for number, (word, item, body) in sorted(listed.items()):
         if item not in texts.get(number, [])[:1]:
             fault(f"{MANUAL}: {number} is '{item}', which {PAGE} does not say")
-        _, wanted, _, remedy = explained.get(number, ("", "", "", ""))
+        _, named, wanted, _, remedy = explained.get(number, ("", "", "", "", ""))
+        if word != named:
+            fault(f"{MANUAL}: {number} has the word '{word}', and not '{named}'")
         if words_of(body) != words_of(f"{wanted} {remedy}"):
             fault(f"{MANUAL}: {number} has other words than '{wanted}' and '{remedy}'")
 

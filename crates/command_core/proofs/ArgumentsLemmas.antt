@@ -6,21 +6,21 @@ use Rattle.clap.specs.Words.{with_rule, with_subcommand}
 use Rattle.clap.specs.declared.builder.arg.Arg.{Arg}
 use Rattle.clap.specs.declared.builder.command.Command.{Command}
 use Rattle.clap.proofs.OnLiterals.{clap_on_literals}
-use Rattle.command_core.specs.ArgumentsWords.{IsArgument, IsCommand, Joins, Numerals, Schemes}
+use Rattle.command_core.specs.ArgumentsWords.{IsArgument, IsCommand, Joins, ErrorNames, Schemes}
 use Rattle.command_core.specs.ArgumentsWords.{lexicat_app}
 use Rattle.command_core.specs.ArgumentsWords.{preferences_app, under as sub}
 
 -- The program's command line is one of which clap states the matches.
-pub lexicat_simple : (schemes : Schemes) (numbers : Numerals)
-    → is_simple (lexicat_app schemes numbers) ≡ true
+pub lexicat_simple : (schemes : Schemes) (names : ErrorNames)
+    → is_simple (lexicat_app schemes names) ≡ true
 unfolding clap_on_literals
-lexicat_simple schemes numbers = refl
+lexicat_simple schemes names = refl
 
 -- The program's command line is one of which clap also states the faults.
-pub lexicat_free : (schemes : Schemes) (numbers : Numerals)
-    → is_simple_and_free (lexicat_app schemes numbers) ≡ true
+pub lexicat_free : (schemes : Schemes) (names : ErrorNames)
+    → is_simple_and_free (lexicat_app schemes names) ≡ true
 unfolding clap_on_literals
-lexicat_free schemes numbers = refl
+lexicat_free schemes names = refl
 
 -- one more argument
 pub added : (app : App) (rule : Rule) (old new : Command) (arg : Arg) → IsCommand app old

@@ -8,24 +8,24 @@ use Rattle.clap.specs.declared.error.Error.{Error}
 use Rattle.clap.specs.declared.error.kind.ErrorKind.TheVariants.{OutOfMemory}
 use Rattle.clap.specs.declared.parser.matches.ArgMatches.{ArgMatches}
 use Rattle.command_core.specs.OutputEndings.{EndsForMemory}
-use Rattle.command_core.specs.Program.{Does, MatchesBy, ReportsBy, refusal_numerals}
+use Rattle.command_core.specs.Program.{Does, MatchesBy, ReportsBy, error_names}
 use Rattle.command_core.specs.OutputStreams.{IsUnread, Streams}
-use Rattle.command_core.specs.ArgumentsWords.{Numerals, Schemes, lexicat_app}
+use Rattle.command_core.specs.ArgumentsWords.{ErrorNames, Schemes, lexicat_app}
 
 -- That memory ends before clap is called is a possible result of parsing the words.
-pub no_memory : (schemes : Schemes) (numbers : Numerals)
+pub no_memory : (schemes : Schemes) (names : ErrorNames)
     → map (λ s. s.now) schemes.now ≡ codes "basic" ∷ codes "extended" ∷ []
-    → map (λ s. s.now) numbers.now ≡ refusal_numerals
+    → map (λ s. s.now) names.now ≡ error_names
     → (words : List Text) (r : Result ArgMatches Error)
     → IsErrAnd r (λ e. kind_of e ≡ OutOfMemory) → MatchesBy words r
-no_memory schemes numbers are told words (Ok matches) h = absurd h
-no_memory schemes numbers are told words (Err error) h = record {
-  app = lexicat_app schemes numbers;
+no_memory schemes names are told words (Ok matches) h = absurd h
+no_memory schemes names are told words (Err error) h = record {
+  app = lexicat_app schemes names;
   app_ok = record {
     schemes = schemes;
     scheme_words = are;
-    numbers = numbers;
-    number_words = told;
+    names = names;
+    name_words = told;
     app_is = refl;
   };
   matches = tt;

@@ -27,9 +27,9 @@ Joins program command joined =
 abbrev pub Schemes : Type 0
 Schemes = Bor (List (Bor (List ℕ)))
 
--- the words that the number of a refusal may be, likewise
-abbrev pub Numerals : Type 0
-Numerals = Bor (List (Bor (List ℕ)))
+-- the names that a refusal may have, likewise
+abbrev pub ErrorNames : Type 0
+ErrorNames = Bor (List (Bor (List ℕ)))
 
 -- `--scheme SCHEME`, one of these words
 abbrev pub scheme_rule : Schemes → Rule
@@ -125,15 +125,15 @@ not_after_rule = record (new_rule (codes "not-after")) {
   parser = Some (Unsigned 0 18446744073709551615);
 }
 
--- the number of a refusal, one of these words
-abbrev pub number_rule : Numerals → Rule
-number_rule numbers =
+-- the name of a refusal, one of these
+abbrev pub error_rule : ErrorNames → Rule
+error_rule names =
     record
-    (new_rule (codes "number")) {
+    (new_rule (codes "error")) {
       value_names = 1;
       required = true;
       parser =
-          Some (Names numbers);
+          Some (Names names);
     }
 
 -- `new --site NAME`
@@ -226,9 +226,9 @@ merge_app = checks_app (new_app (codes "merge"))
 abbrev pub replay_app : App
 replay_app = new_app (codes "replay")
 
--- `explain NUMBER`
-abbrev pub explain_app : Numerals → App
-explain_app numbers = with_rule (new_app (codes "explain")) (number_rule numbers)
+-- `explain ERROR`
+abbrev pub explain_app : ErrorNames → App
+explain_app names = with_rule (new_app (codes "explain")) (error_rule names)
 
 -- the words do not begin with the program's name, and one of them names a subcommand
 abbrev pub bare_app : App
@@ -268,12 +268,12 @@ questions_app app schemes =
     under (under (under app (filter_app schemes)) (lookup_app schemes)) (bundle_app schemes)
 
 -- with what sites exchange, with a replay of what they did, and with what a refusal is
-abbrev pub exchange_app : App → Numerals → App
-exchange_app app numbers =
+abbrev pub exchange_app : App → ErrorNames → App
+exchange_app app names =
     under (under (under (under (under (under (under app summary_app) delta_app) take_app) sync_app)
-    merge_app) replay_app) (explain_app numbers)
+    merge_app) replay_app) (explain_app names)
 
 -- the program with all its subcommands
-abbrev pub lexicat_app : Schemes → Numerals → App
-lexicat_app schemes numbers =
-    exchange_app (questions_app (labels_app (sites_app bare_app schemes)) schemes) numbers
+abbrev pub lexicat_app : Schemes → ErrorNames → App
+lexicat_app schemes names =
+    exchange_app (questions_app (labels_app (sites_app bare_app schemes)) schemes) names

@@ -1,6 +1,12 @@
 -- What explains a refusal (project rule).
-use Rattle.std.specs.Prelude.{◌≡◌, ◌++◌, ℕ, List, MatchOption, codes, decimal}
-use Rattle.front_core.specs.Refusal.{RefusalTexts, refusal_of}
+use Rattle.std.specs.Prelude.{◌≡◌, ◌++◌, ℕ, List, MatchOption, None, Option, Some, codes, decimal}
+use Rattle.front_core.specs.Refusal.{RefusalTexts, number_of_code, refusal_of}
+
+-- the number that is given, or that of the refusal with this word
+abbrev pub number_named : Option ℕ → Option (List ℕ) → Option ℕ
+number_named (Some number) word = Some number
+number_named None None = None
+number_named None (Some word) = number_of_code word
 
 -- what is refused, why, and what to do, a line each
 abbrev pub explanation : ℕ → RefusalTexts → List ℕ

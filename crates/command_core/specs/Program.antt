@@ -1,6 +1,6 @@
 -- What the program does with its words (project rules).
-use Rattle.std.specs.Prelude.{◌≡◌, ◌≢◌, ◌⊎◌, ℕ, Bool, true, false, List, [], ◌∷◌, Option, codes}
-use Rattle.std.specs.Prelude.{map, IfOk, MatchBool, Result}
+use Rattle.std.specs.Prelude.{◌≡◌, ◌≢◌, ◌⊎◌, ◌++◌, ℕ, Bool, true, false, List, [], ◌∷◌, Option}
+use Rattle.std.specs.Prelude.{codes, map, IfOk, MatchBool, Result}
 use Rattle.clap.specs.Words.{App, Row, Text, fault_of, subcommand_of, subcommand_rows_of, FailsBy}
 use Rattle.clap.specs.Kinds.{Kinds, IsAmong}
 use Rattle.clap.specs.declared.error.Error.{Error}
@@ -9,10 +9,11 @@ use Rattle.clap.specs.declared.error.kind.ErrorKind.TheVariants.{DisplayHelp, Di
 use Rattle.clap.specs.declared.error.kind.ErrorKind.TheVariants.{OutOfMemory}
 use Rattle.clap.specs.declared.parser.matches.ArgMatches.{ArgMatches}
 use Rattle.json_docs.specs.Sinks.{AppendsFront}
+use Rattle.front_core.specs.Refusal.{refusals}
 use Rattle.command_core.specs.TaskActs.{ActsBy}
 use Rattle.command_core.specs.OutputEndings.{EndsForMemory}
 use Rattle.command_core.specs.OutputStreams.{IsUnread, IsUnwritten, Streams, Writer}
-use Rattle.command_core.specs.ArgumentsWords.{Numerals, Schemes, lexicat_app}
+use Rattle.command_core.specs.ArgumentsWords.{ErrorNames, Schemes, lexicat_app}
 
 -- help and the version are answers, and no faults
 abbrev pub is_shown : ErrorKind → Bool
@@ -21,21 +22,25 @@ is_shown DisplayVersion = true
 is_shown _ = false
 
 -- the numbers of refusals in decimal, 1 to 30
-abbrev pub refusal_numerals : List Text
-refusal_numerals =
+abbrev error_numerals : List Text
+error_numerals =
     codes "1" ∷ codes "2" ∷ codes "3" ∷ codes "4" ∷ codes "5" ∷ codes "6" ∷ codes "7" ∷ codes "8"
     ∷ codes "9" ∷ codes "10" ∷ codes "11" ∷ codes "12" ∷ codes "13" ∷ codes "14" ∷ codes "15"
     ∷ codes "16" ∷ codes "17" ∷ codes "18" ∷ codes "19" ∷ codes "20" ∷ codes "21" ∷ codes "22"
     ∷ codes "23" ∷ codes "24" ∷ codes "25" ∷ codes "26" ∷ codes "27" ∷ codes "28" ∷ codes "29"
     ∷ codes "30" ∷ []
 
+-- the names of refusals: their numbers, then their words
+abbrev pub error_names : List Text
+error_names = error_numerals ++ map (λ texts. texts.code) refusals
+
 -- the command line of the program
 pub record IsProgram (app : App) : Type 0 where
   pub schemes : Schemes
   pub scheme_words : map (λ s. s.now) schemes.now ≡ codes "basic" ∷ codes "extended" ∷ []
-  pub numbers : Numerals
-  pub number_words : map (λ s. s.now) numbers.now ≡ refusal_numerals
-  pub app_is : app ≡ lexicat_app schemes numbers
+  pub names : ErrorNames
+  pub name_words : map (λ s. s.now) names.now ≡ error_names
+  pub app_is : app ≡ lexicat_app schemes names
 
 -- what clap makes of the words: at a command of the program, the matches that it has on them, or a
 -- fault of the kinds that it finds in them

@@ -18,6 +18,7 @@ use Rattle.command_core.specs.TaskQuestionWords.{outdated_words}
 use Rattle.command_core.specs.TaskQuestionWords.{pick_all_words, pick_words}
 use Rattle.command_core.specs.TaskEditWords.{EditWords, delete_words, put_words}
 use Rattle.command_core.specs.TaskFieldWords.{ReaderWords, is_given, reader_words}
+use Rattle.command_core.specs.Explaining.{number_named}
 use Rattle.command_core.specs.declared.documents.DocumentTask.{DocumentTask}
 use Rattle.command_core.specs.declared.documents.DocumentTask.TheVariants as document
 use Rattle.command_core.specs.declared.task.Numbers.{Numbers}
@@ -38,12 +39,17 @@ abbrev pub GivesNumber : Text → List Row → Option ℕ → Type 0
 GivesNumber id rows number =
     MatchOption (one_of id rows) (number ≡ None) (λ text. IsNumberOf text number)
 
+-- the number of the refusal that is named, by itself or by its word
+abbrev pub GivesError : List Row → Option ℕ → Type 0
+GivesError rows error = (number : Option ℕ) × GivesNumber (codes "error") rows number
+    × (error ≡ number_named number (first_of (codes "error") rows))
+
 -- the moment, the latest time that is taken, and the number of a refusal
 abbrev pub GivesNumbers : List Row → Numbers → Type 0
 GivesNumbers rows numbers =
     GivesNumber (codes "now") rows numbers.now
     × GivesNumber (codes "not-after") rows numbers.not_after
-    × GivesNumber (codes "number") rows numbers.number
+    × GivesError rows numbers.error
 
 -- what the program is asked to do, by the words of its arguments
 pub data TaskWords : Type 0 where
@@ -127,7 +133,7 @@ task_words name numbers rows =
     else (if bytes_eq name (codes "merge") then
     Some (Document (document.Merge (checks_words numbers.not_after rows)))
     else (if bytes_eq name (codes "replay") then Some Replay
-    else (if bytes_eq name (codes "explain") then explain_task numbers.number
+    else (if bytes_eq name (codes "explain") then explain_task numbers.error
     else None))))))))))))))))))))
 
 -- the task of the matched subcommand, with the numbers that its arguments give

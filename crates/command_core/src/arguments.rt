@@ -5,7 +5,7 @@ ghost use Rattle.clap.specs.declared.builder.command.Command.TheViews.{out-Comma
 ghost use Rattle.command_core.specs.ArgumentsWords.{IsArgument, IsCommand, Joins, default_rule};
 ghost use Rattle.command_core.specs.ArgumentsWords.{checks_app, edit_app};
 ghost use Rattle.command_core.specs.ArgumentsWords.{field_rule, flag_rule, id_rule, lang_rule};
-ghost use Rattle.command_core.specs.ArgumentsWords.{not_after_rule, now_rule, number_rule};
+ghost use Rattle.command_core.specs.ArgumentsWords.{error_rule, not_after_rule, now_rule};
 ghost use Rattle.command_core.specs.ArgumentsWords.{preferences_app};
 ghost use Rattle.command_core.specs.ArgumentsWords.{offer_rule, required_rule, scheme_rule};
 ghost use Rattle.command_core.specs.ArgumentsWords.{site_rule};
@@ -161,15 +161,15 @@ pub(crate) fn labels<'a>(alloc: Global) -> Arg<'a>
     )
 }
 
-/// The number of an error.
-pub(crate) fn number<'a>(alloc: Global, numbers: &'a [&'a str]) -> Arg<'a>
-    ensures { IsArgument (number_rule numbers.entry) result }
+/// An error, by its number or its word.
+pub(crate) fn error<'a>(alloc: Global, names: &'a [&'a str]) -> Arg<'a>
+    ensures { IsArgument (error_rule names.entry) result }
 {
-    Arg::new(alloc, "number")
-        .value_name("NUMBER")
-        .help("The number of an error")
+    Arg::new(alloc, "error")
+        .value_name("ERROR")
+        .help("The number of an error, or its word")
         .required(true)
-        .value_parser(numbers)
+        .value_parser(names)
 }
 
 /// `--site`, the name of a site.

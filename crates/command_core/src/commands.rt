@@ -89,9 +89,9 @@ pub(crate) fn with_questions<'a>(
 pub(crate) fn with_exchange<'a>(
     alloc: Global,
     program: Command<'a>,
-    numbers: &'a [&'a str],
+    errors: &'a [&'a str],
 ) -> Result<Command<'a>, AllocError>
-    ensures { IfOk result (λ c. app_of c ≡ exchange_app (app_of program.entry) numbers.entry) }
+    ensures { IfOk result (λ c. app_of c ≡ exchange_app (app_of program.entry) errors.entry) }
 {
     let program = with_command(Ok(program), summary(alloc));
     let delta = reading(
@@ -118,7 +118,7 @@ pub(crate) fn with_exchange<'a>(
             replay",
     );
     let program = with_command(program, Ok(replay));
-    with_command(program, explain(alloc, numbers))
+    with_command(program, explain(alloc, errors))
 }
 
 /// `pick [--scheme SCHEME] [--lenient] [--widen] [--default LANG] [--all] RANGES TAG..`
@@ -385,16 +385,17 @@ fn merge<'a>(alloc: Global) -> Result<Command<'a>, AllocError>
     arguments::with_checks(alloc, command)
 }
 
-/// `explain NUMBER`
-fn explain<'a>(alloc: Global, numbers: &'a [&'a str]) -> Result<Command<'a>, AllocError>
-    ensures { IfOk result (IsCommand (explain_app numbers.entry)) }
+/// `explain ERROR`
+fn explain<'a>(alloc: Global, errors: &'a [&'a str]) -> Result<Command<'a>, AllocError>
+    ensures { IfOk result (IsCommand (explain_app errors.entry)) }
 {
     described(
         alloc,
         "explain",
         "Prints what an error means, what causes it, and what to do",
-        "An error is a line 'refused N: TEXT', and NUMBER is its N. Standard input is not read.\n\
+        "An error is a line 'refused N: TEXT'. ERROR is its N, or its word. Standard input is not \
+            read.\n\
             Example: lexicat explain 21",
     )
-    .arg(arguments::number(alloc, numbers))
+    .arg(arguments::error(alloc, errors))
 }

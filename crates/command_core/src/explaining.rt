@@ -2,13 +2,13 @@
 ghost use Rattle.std.specs.Prelude.{◌≡◌, option_map, IfOk, MatchResult};
 ghost use Rattle.command_core.specs.TaskActs.{IsExplained, RefusesNever};
 ghost use Rattle.front_core.specs.Refusal.{refusal_texts};
-ghost use Rattle.command_core.specs.Explaining.{explanation};
+ghost use Rattle.command_core.specs.Explaining.{explanation, number_named};
 ghost use Rattle.command_core.specs.Status.{answer_status};
 ghost use Rattle.command_core.specs.TaskWords.{Explain, explain_task};
 
 use crate::output::Answered;
 use docs_core::Doc;
-use front_core::{Answer, Outcome, Refusal, explain};
+use front_core::{Answer, Outcome, Refusal, explain, number_of_code};
 use std::alloc::{AllocError, Global};
 use std::marker::Model;
 
@@ -28,6 +28,17 @@ impl Model for Explained {
     ghost view = { λ it. it.number };
 
     ghost invariant = { λ it. refusal_of it.number ≡ Some (refusal_texts it.refusal) };
+}
+
+/// The number that is given, or that of the refusal with this word.
+pub(crate) fn number_named(number: Option<u64>, word: Option<&str>) -> Option<u64>
+    ensures { result ≡ number_named number (option_map (λ s. s.now) word.entry) }
+{
+    match (number, word) {
+        (Some(number), _) => Some(number),
+        (None, Some(word)) => number_of_code(word).map(u64::from),
+        (None, None) => None,
+    }
 }
 
 /// The refusal of this number, where there is one.

@@ -21,10 +21,68 @@ use std::convert::AsStr;
 /// The names of the schemes that `--scheme` takes.
 static SCHEMES: [&str; 2] = ["basic", "extended"];
 
-/// The numbers that `explain` takes.
-static NUMBERS: [&str; 30] = [
-    "1", "2", "3", "4", "5", "6", "7", "8", "9", "10", "11", "12", "13", "14", "15", "16", "17",
-    "18", "19", "20", "21", "22", "23", "24", "25", "26", "27", "28", "29", "30",
+/// What `explain` takes: the numbers of errors, then their words.
+static ERRORS: [&str; 60] = [
+    "1",
+    "2",
+    "3",
+    "4",
+    "5",
+    "6",
+    "7",
+    "8",
+    "9",
+    "10",
+    "11",
+    "12",
+    "13",
+    "14",
+    "15",
+    "16",
+    "17",
+    "18",
+    "19",
+    "20",
+    "21",
+    "22",
+    "23",
+    "24",
+    "25",
+    "26",
+    "27",
+    "28",
+    "29",
+    "30",
+    "tag-empty",
+    "tag-too-long",
+    "subtag-malformed",
+    "tag-malformed",
+    "range-empty",
+    "range-too-long",
+    "range-malformed",
+    "field-too-long",
+    "field-malformed",
+    "id-invalid",
+    "text-too-long",
+    "text-count",
+    "duplicate-timestamp",
+    "clock-exhausted",
+    "wrong-addressee",
+    "unknown-site",
+    "unknown-post",
+    "not-utf8",
+    "not-json",
+    "wrong-shape",
+    "wrong-order",
+    "repeated-language",
+    "too-large",
+    "read-error",
+    "write-error",
+    "out-of-memory",
+    "site-name-invalid",
+    "unknown-version",
+    "clock-ahead",
+    "own-edit-missing",
 ];
 
 /// Runs the program on the arguments after its name, and gives its status. `help` is `--help`, and
@@ -87,21 +145,21 @@ fn answer_words<S: AsStr, R: Source, W: Sink, F: Sink>(
 fn matches_of<S: AsStr>(alloc: Global, words: &[S]) -> Result<ArgMatches<'_>, Error>
     ensures { MatchesBy (map S.text words.now) result }
 {
-    lexicat(alloc, SCHEMES.as_slice(), NUMBERS.as_slice())?.try_get_matches_from(words)
+    lexicat(alloc, SCHEMES.as_slice(), ERRORS.as_slice())?.try_get_matches_from(words)
 }
 
 /// The program and all its commands, in the order in which the help shows them.
 fn lexicat<'a>(
     alloc: Global,
     schemes: &'a [&'a str],
-    numbers: &'a [&'a str],
+    errors: &'a [&'a str],
 ) -> Result<Command<'a>, AllocError>
-    ensures { IfOk result (λ c. app_of c ≡ lexicat_app schemes.entry numbers.entry) }
+    ensures { IfOk result (λ c. app_of c ≡ lexicat_app schemes.entry errors.entry) }
 {
     let sites = with_sites(alloc, bare(alloc)?, schemes)?;
     let labels = with_labels(alloc, sites)?;
     let questions = with_questions(alloc, labels, schemes)?;
-    with_exchange(alloc, questions, numbers)
+    with_exchange(alloc, questions, errors)
 }
 
 /// The program without its commands.

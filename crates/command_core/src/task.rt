@@ -15,7 +15,7 @@ ghost use Rattle.command_core.specs.TaskValues.{preference_values, reader_values
 
 use crate::documents::DocumentTask;
 use crate::edits::EditValues;
-use crate::explaining::{Explained, refusal_of};
+use crate::explaining::{Explained, number_named, refusal_of};
 use crate::fault_line::{refuse, refuse_arguments};
 use crate::output::finish;
 use crate::questions::ask;
@@ -105,8 +105,8 @@ struct Numbers {
     now: Option<u64>,
     /// The latest time that is taken, `--not-after`.
     not_after: Option<u64>,
-    /// The number of a refusal.
-    number: Option<u64>,
+    /// The number of a refusal, which is given or has the word that is.
+    error: Option<u64>,
 }
 
 /// The task of clap's matches, where they name a command of the program, no argument is missing,
@@ -152,7 +152,7 @@ fn task_of<'m, 'a>(name: &str, matches: &'m ArgMatches<'a>) -> Option<Task<'m, '
         "sync" => Some(Task::Sync(checks_of(numbers.not_after, matches))),
         "merge" => Some(Task::Document(DocumentTask::Merge(checks_of(numbers.not_after, matches)))),
         "replay" => Some(Task::Replay),
-        "explain" => Some(Task::Explain(refusal_of(numbers.number)?)),
+        "explain" => Some(Task::Explain(refusal_of(numbers.error)?)),
         _ => None,
     }
 }
@@ -214,7 +214,7 @@ fn numbers_of(matches: &ArgMatches<'_>) -> Numbers
     Numbers {
         now: number_of(matches, "now"),
         not_after: number_of(matches, "not-after"),
-        number: number_of(matches, "number"),
+        error: number_named(number_of(matches, "error"), text_of(matches, "error")),
     }
 }
 

@@ -147,6 +147,10 @@ ReportsLine line old new told status =
 abbrev pub ReportsMeaning : ℕ → Ends
 ReportsMeaning number = ReportsLine (option_map (λ texts. texts.meaning) (refusal_of number))
 
+-- the word for the refusal of this number
+abbrev pub ReportsRefusalCode : ℕ → Ends
+ReportsRefusalCode number = ReportsLine (option_map (λ texts. texts.code) (refusal_of number))
+
 -- what the command prints of the refusal of this number
 abbrev pub ReportsRefusalText : ℕ → Ends
 ReportsRefusalText number = ReportsLine (option_map (λ texts. texts.text) (refusal_of number))

@@ -13,7 +13,8 @@
 //!   [`sw_site_update`] edit one, [`sw_site_take`] and [`sw_site_merge`] join edits of others, and
 //!   all of these leave the other handles of it as they are.
 //! - [`sw_site_write`], [`sw_site_summary`], [`sw_site_status`] and [`sw_site_delta`] write it.
-//! - [`sw_filter`] filters tags, [`sw_refusal`] and [`sw_refusal_text`] explain a refusal.
+//! - [`sw_filter`] filters tags; [`sw_refusal`], [`sw_refusal_code`] and [`sw_refusal_text`]
+//!   explain a refusal.
 //! - [`sw_version`] is the version.
 //!
 //! Each of them returns a status, that of the command for the same question, and reports the rest
@@ -41,8 +42,9 @@ ghost use Rattle.front_c.specs.Calls.{ReportsFilter, ReportsImported, ReportsLoo
 ghost use Rattle.front_c.specs.Calls.{ReportsLookupText, ReportsMeaning, ReportsMerged};
 ghost use Rattle.front_c.specs.Calls.{ReportsMissing, ReportsNew, ReportsOpened, ReportsOutdated};
 ghost use Rattle.front_c.specs.Calls.{ReportsPick, ReportsPut, ReportsReadFilter};
-ghost use Rattle.front_c.specs.Calls.{ReportsReadLookup, ReportsRefusalText, ReportsRules};
-ghost use Rattle.front_c.specs.Calls.{ReportsShared, ReportsSummary, ReportsTagFilter};
+ghost use Rattle.front_c.specs.Calls.{ReportsReadLookup, ReportsRefusalCode, ReportsRefusalText};
+ghost use Rattle.front_c.specs.Calls.{ReportsRules, ReportsShared, ReportsSummary};
+ghost use Rattle.front_c.specs.Calls.{ReportsTagFilter};
 ghost use Rattle.front_c.specs.Calls.{ReportsTaken, ReportsUpdated, ReportsView, ReportsWritten};
 ghost use Rattle.front_c.specs.Reporting.{ReportsAnswer, ReportsLabelText};
 ghost use Rattle.front_c.specs.Handles.{site_of};
@@ -435,6 +437,18 @@ pub extern "C" fn sw_refusal(number: u32, out: &mut [u8], told: &mut Told) -> i3
 {
     match explained(number) {
         Some(refusal) => report_text(refusal.meaning.as_bytes(), 0, status::FOUND, out, told),
+        None => report_nothing(0, told),
+    }
+}
+
+/// Answers the word for this refusal, as `clock-ahead`, which has at most 32 bytes; nothing for a
+/// number that no refusal has.
+#[unsafe(no_mangle)]
+pub extern "C" fn sw_refusal_code(number: u32, out: &mut [u8], told: &mut Told) -> i32
+    ensures { ReportsRefusalCode number out.old out.new told.new result }
+{
+    match explained(number) {
+        Some(refusal) => report_text(refusal.code.as_bytes(), 0, status::FOUND, out, told),
         None => report_nothing(0, told),
     }
 }

@@ -1,7 +1,9 @@
 -- The refusals: their numbers, and the texts that explain each (project rules).
-use Rattle.std.specs.Prelude.{◌==◌, ◌&&◌, ◌≤◌, ◌-◌, ◌++◌, ◌∷◌, [], ℕ, Bool, List, None, Option}
-use Rattle.std.specs.Prelude.{codes, if◌then◌else◌, length, nat_lt, not, slice_get}
-use Rattle.std.specs.List.{list_all}
+use Rattle.std.specs.Prelude.{◌==◌, ◌&&◌, ◌||◌, ◌≤◌, ◌+◌, ◌-◌, ◌++◌, ◌∷◌, [], ℕ, Bool, List, None}
+use Rattle.std.specs.Prelude.{Option, codes, if◌then◌else◌, length, nat_le, nat_lt, not}
+use Rattle.std.specs.Prelude.{option_map, slice_get}
+use Rattle.std.specs.List.{list_all, position}
+use Rattle.std.specs.Str.{bytes_eq}
 use Rattle.lang_core.specs.Fault.{meaning_of}
 use Rattle.front_core.specs.declared.refusal.Refusal.{Refusal}
 use Rattle.lang_core.specs.declared.fault.LangFault.TheVariants as lang
@@ -10,8 +12,10 @@ use Rattle.lang_core.specs.declared.fault.LangFault.TheVariants as lang
 abbrev pub IsRefusalNumber : ℕ → Type 0
 IsRefusalNumber number = (1 ≤ number) × (number ≤ 30)
 
--- what is printed, what is wanted, what there is instead, and what to do, each without an end mark
+-- its word, and what is printed, what is wanted, what there is instead, and what to do, each
+-- without an end mark
 pub record RefusalTexts : Type 0 where
+  pub code : List ℕ
   pub text : List ℕ
   pub meaning : List ℕ
   pub cause : List ℕ
@@ -21,6 +25,7 @@ pub record RefusalTexts : Type 0 where
 abbrev texts_1 : RefusalTexts
 texts_1 =
     record {
+      code = codes "tag-empty";
       text = codes "tag is empty";
       meaning =
           meaning_of lang.TagEmpty;
@@ -34,6 +39,7 @@ texts_1 =
 abbrev texts_2 : RefusalTexts
 texts_2 =
     record {
+      code = codes "tag-too-long";
       text = codes "tag is over 255 bytes";
       meaning =
           meaning_of lang.TagTooLong;
@@ -47,6 +53,7 @@ texts_2 =
 abbrev texts_3 : RefusalTexts
 texts_3 =
     record {
+      code = codes "subtag-malformed";
       text = codes "subtag at OFFSET";
       meaning =
           meaning_of (lang.TagSubtag 0);
@@ -62,6 +69,7 @@ texts_3 =
 abbrev texts_4 : RefusalTexts
 texts_4 =
     record {
+      code = codes "tag-malformed";
       text = codes "tag is not well-formed";
       meaning =
           meaning_of lang.TagNotWellFormed;
@@ -76,6 +84,7 @@ texts_4 =
 abbrev texts_5 : RefusalTexts
 texts_5 =
     record {
+      code = codes "range-empty";
       text = codes "range is empty";
       meaning =
           meaning_of lang.RangeEmpty;
@@ -89,6 +98,7 @@ texts_5 =
 abbrev texts_6 : RefusalTexts
 texts_6 =
     record {
+      code = codes "range-too-long";
       text = codes "range is over 255 bytes";
       meaning =
           meaning_of lang.RangeTooLong;
@@ -102,6 +112,7 @@ texts_6 =
 abbrev texts_7 : RefusalTexts
 texts_7 =
     record {
+      code = codes "range-malformed";
       text = codes "range subtag at OFFSET";
       meaning =
           meaning_of (lang.RangeSubtag 0);
@@ -115,6 +126,7 @@ texts_7 =
 abbrev texts_8 : RefusalTexts
 texts_8 =
     record {
+      code = codes "field-too-long";
       text = codes "field is over 65535 bytes";
       meaning =
           codes "a field has at most 65535 bytes";
@@ -129,6 +141,7 @@ texts_8 =
 abbrev texts_9 : RefusalTexts
 texts_9 =
     record {
+      code = codes "field-malformed";
       text = codes "field element at OFFSET";
       meaning =
           codes "each element of a field is a range, with or without a weight (RFC 9110 "
@@ -146,6 +159,7 @@ texts_9 =
 abbrev texts_10 : RefusalTexts
 texts_10 =
     record {
+      code = codes "id-invalid";
       text = codes "message id";
       meaning =
           codes "a message id has 1 to 128 bytes, no control character, and no @ first";
@@ -160,6 +174,7 @@ texts_10 =
 abbrev texts_11 : RefusalTexts
 texts_11 =
     record {
+      code = codes "text-too-long";
       text = codes "text INDEX is over 65535 bytes";
       meaning =
           codes "each text of a label has at most 65535 bytes";
@@ -173,6 +188,7 @@ texts_11 =
 abbrev texts_12 : RefusalTexts
 texts_12 =
     record {
+      code = codes "text-count";
       text = codes "label has COUNT texts";
       meaning =
           codes "a label has 1 to 64 texts";
@@ -186,6 +202,7 @@ texts_12 =
 abbrev texts_13 : RefusalTexts
 texts_13 =
     record {
+      code = codes "duplicate-timestamp";
       text = codes "one stamp is used for two different edits, cell PLACE";
       meaning =
           codes "two different edits of a message in a language have two timestamps";
@@ -201,6 +218,7 @@ texts_13 =
 abbrev texts_14 : RefusalTexts
 texts_14 =
     record {
+      code = codes "clock-exhausted";
       text = codes "clock is spent";
       meaning =
           codes "an edit has a timestamp later than all that its site has";
@@ -215,6 +233,7 @@ texts_14 =
 abbrev texts_15 : RefusalTexts
 texts_15 =
     record {
+      code = codes "wrong-addressee";
       text = codes "delta is for another site";
       meaning =
           codes "a delta is applied to the site that it was made for";
@@ -228,6 +247,7 @@ texts_15 =
 abbrev texts_16 : RefusalTexts
 texts_16 =
     record {
+      code = codes "unknown-site";
       text = codes "step STEP names no site";
       meaning =
           codes "a step of a script names a site of the script";
@@ -241,6 +261,7 @@ texts_16 =
 abbrev texts_17 : RefusalTexts
 texts_17 =
     record {
+      code = codes "unknown-post";
       text = codes "step STEP names no post";
       meaning =
           codes "a step of a script names what an earlier step sent or posted";
@@ -255,6 +276,7 @@ texts_17 =
 abbrev texts_18 : RefusalTexts
 texts_18 =
     record {
+      code = codes "not-utf8";
       text = codes "not UTF-8 at OFFSET";
       meaning =
           codes "a document is UTF-8 (RFC 3629)";
@@ -269,6 +291,7 @@ texts_18 =
 abbrev texts_19 : RefusalTexts
 texts_19 =
     record {
+      code = codes "not-json";
       text = codes "not JSON";
       meaning =
           codes "a document is one JSON text (RFC 8259) of at most 127 levels, without a "
@@ -285,6 +308,7 @@ texts_19 =
 abbrev texts_20 : RefusalTexts
 texts_20 =
     record {
+      code = codes "wrong-shape";
       text = codes "shape";
       meaning =
           codes "a document and its rows have the form of the kind that is read";
@@ -300,6 +324,7 @@ texts_20 =
 abbrev texts_21 : RefusalTexts
 texts_21 =
     record {
+      code = codes "wrong-order";
       text = codes "cell order";
       meaning =
           codes "rows ascend by id and then by language, in byte order";
@@ -313,6 +338,7 @@ texts_21 =
 abbrev texts_22 : RefusalTexts
 texts_22 =
     record {
+      code = codes "repeated-language";
       text = codes "language repeated";
       meaning =
           codes "the languages of a message differ, without regard to case";
@@ -326,6 +352,7 @@ texts_22 =
 abbrev texts_23 : RefusalTexts
 texts_23 =
     record {
+      code = codes "too-large";
       text = codes "document is over 67108864 bytes";
       meaning =
           codes "a command reads at most 67108864 bytes, all its documents together";
@@ -340,6 +367,7 @@ texts_23 =
 abbrev texts_24 : RefusalTexts
 texts_24 =
     record {
+      code = codes "read-error";
       text = codes "read fault";
       meaning =
           codes "the input is read to its end";
@@ -354,6 +382,7 @@ texts_24 =
 abbrev texts_25 : RefusalTexts
 texts_25 =
     record {
+      code = codes "write-error";
       text = codes "write fault";
       meaning =
           codes "the output takes all that is written";
@@ -369,6 +398,7 @@ texts_25 =
 abbrev texts_26 : RefusalTexts
 texts_26 =
     record {
+      code = codes "out-of-memory";
       text = codes "out of memory";
       meaning =
           codes "there is memory for what is asked";
@@ -382,6 +412,7 @@ texts_26 =
 abbrev texts_27 : RefusalTexts
 texts_27 =
     record {
+      code = codes "site-name-invalid";
       text = codes "site name";
       meaning =
           codes "a site name has 1 to 16 bytes of a to z, 0 to 9 and -";
@@ -396,6 +427,7 @@ texts_27 =
 abbrev texts_28 : RefusalTexts
 texts_28 =
     record {
+      code = codes "unknown-version";
       text = codes "version unknown";
       meaning =
           codes "the version of a document is 1 or 2";
@@ -409,6 +441,7 @@ texts_28 =
 abbrev texts_29 : RefusalTexts
 texts_29 =
     record {
+      code = codes "clock-ahead";
       text = codes "time is ahead";
       meaning =
           codes "no row has a time after the limit";
@@ -424,6 +457,7 @@ texts_29 =
 abbrev texts_30 : RefusalTexts
 texts_30 =
     record {
+      code = codes "own-edit-missing";
       text = codes "an edit of this site is missing here";
       meaning =
           codes "a site has each edit that it made, or a later one of that label";
@@ -447,10 +481,16 @@ refusals =
 abbrev pub refusal_of : ℕ → Option RefusalTexts
 refusal_of number = if number == 0 then None else slice_get refusals (number - 1)
 
+-- the number of the refusal that has this word
+abbrev pub number_of_code : List ℕ → Option ℕ
+number_of_code code =
+    option_map (λ place. place + 1) (position (λ texts. bytes_eq texts.code code) refusals)
+
 -- what a refusal of the code says
 abbrev pub refusal_texts : Refusal → RefusalTexts
 refusal_texts refusal =
     record {
+      code = refusal.code.now;
       text = refusal.text.now;
       meaning = refusal.meaning.now;
       cause =
@@ -458,6 +498,14 @@ refusal_texts refusal =
       remedy =
           refusal.remedy.now;
     }
+
+-- "a" to "z", "0" to "9" or "-"
+abbrev pub is_code_byte : ℕ → Bool
+is_code_byte b = (nat_le 97 b && nat_le b 122) || ((nat_le 48 b && nat_le b 57) || (b == 45))
+
+-- 1 to 32 such bytes
+abbrev pub is_code : List ℕ → Bool
+is_code text = list_all is_code_byte text && nat_lt 0 (length text) && nat_lt (length text) 33
 
 -- the text is one line, without its end
 abbrev pub is_line : List ℕ → Bool

@@ -13,7 +13,8 @@
 //! - [`pick`] finds a tag for a [`Field`] among tags, one on a line (RFC 4647, section 3.4), and
 //!   [`filter_tags`] finds all that the field takes (section 3.3); [`words`] has both of the
 //!   arguments of a command.
-//! - [`explain`] says of a refusal's number what it means, what causes it and what to do.
+//! - [`explain`] says of a refusal's number what it means, what causes it and what to do;
+//!   [`number_of_code`] is the number of its word.
 //! - [`VERSION`] is the version of the command and of the library.
 //!
 //! Ids, fields and languages are passed as bytes. A refusal is a [`FrontFault`], with its number,
@@ -64,7 +65,7 @@ pub use offering::{Offered, Offering};
 pub use open_site::OpenSite;
 pub use preferences::{Field, Preferences};
 pub use reader::Reader;
-pub use refusal::{Refusal, explain};
+pub use refusal::{Refusal, explain, number_of_code};
 pub use tag_filter::filter_tags;
 pub use tag_pick::{Picked, pick};
 pub use translate::{Missing, Outdated, changes};

@@ -15,6 +15,7 @@ const WORDS: &str = r#"0|pick zh-Hant-CN-x-private1-private2 zh-Hant en|-|matche
 0|new --site 1|-|{"cells":[],"kind":"site","site":"1","version":2}
 3|new --site Paris|-|refused 27: site name
 0|explain 27|-|~refusal 27
+0|explain clock-ahead|-|~refusal 29
 0|help pick|-|~Usage: lexicat pick [OPTIONS] <RANGES> <TAG>...
 0|--version|-|lexicat 0.4.0
 3|filter --id @m en;q=2|-|refused 10: message id

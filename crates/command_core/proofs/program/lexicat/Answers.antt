@@ -13,5 +13,5 @@ returns c =
     let questions =
     c.in_ok-questions.ensures ∙ ap (λ (it : App). questions_app it schemes) labels in
     IfOk-weaker c.with_exchange.result _ _
-    (λ r h. h ∙ ap (λ (it : App). exchange_app it c.args.numbers) questions)
+    (λ r h. h ∙ ap (λ (it : App). exchange_app it c.args.errors) questions)
     c.with_exchange.ensures

@@ -17,22 +17,22 @@ returns-in_err-lexicat g c =
 pub returns : goal.returns
 returns g c =
     let schemes = c.as_slice.result in
-    let numbers = c.as_slice-2.result in
+    let names = c.as_slice-2.result in
     let is = c.in_ok-lexicat.ensures in
     let words : List Text = map g.S.AsStr.text c.args.words.now in record {
-      app = lexicat_app schemes numbers;
+      app = lexicat_app schemes names;
       app_ok = record {
         schemes = schemes;
         scheme_words = search rules;
-        numbers = numbers;
-        number_words = search rules;
+        names = names;
+        name_words = search rules;
         app_is = search rules;
       };
       matches = IfOk-weaker c.try_get_matches_from.result _ _
-          (λ m h. (h (ap is_simple is ∙ lexicat_simple schemes numbers)).1
+          (λ m h. (h (ap is_simple is ∙ lexicat_simple schemes names)).1
           ∙ ap (λ (a : App). subcommand_of a words) is)
           c.try_get_matches_from.ensures.matches;
       fails = subst (λ (a : App). FailsBy (fault_of a words) c.try_get_matches_from.result) is
           (c.try_get_matches_from.ensures.kinds
-          (ap is_simple_and_free is ∙ lexicat_free schemes numbers));
+          (ap is_simple_and_free is ∙ lexicat_free schemes names));
     }
