@@ -256,12 +256,15 @@ static void without_a_site(void) {
   ROW(ROOM, sw_refusal(27, out, ROOM, &told), answers(SW_FOUND, 0, (const char *)sentence.bytes));
   ROW(sentence.len - 1, sw_refusal(27, out, sentence.len - 1, &told),
       answers(SW_FOUND, 0, (const char *)sentence.bytes));
+  ROW(ROOM, sw_refusal_code(29, out, ROOM, &told), answers(SW_FOUND, 0, "clock-ahead"));
+  ROW(10, sw_refusal_code(29, out, 10, &told), answers(SW_FOUND, 0, "clock-ahead"));
   ROW(ROOM, sw_refusal_text(3, out, ROOM, &told), answers(SW_FOUND, 0, "subtag at OFFSET"));
   ROW(15, sw_refusal_text(3, out, 15, &told), answers(SW_FOUND, 0, "subtag at OFFSET"));
   ROW(ROOM, sw_refusal_text(12, out, ROOM, &told), answers(SW_FOUND, 0, "label has COUNT texts"));
   static const uint32_t none[] = {0, 31, 256 + 3, UINT32_MAX};
   for (size_t it = 0; it < sizeof none / sizeof *none; it++) {
     ROW(ROOM, sw_refusal(none[it], out, ROOM, &told), nothing_told(SW_NOTHING));
+    ROW(ROOM, sw_refusal_code(none[it], out, ROOM, &told), nothing_told(SW_NOTHING));
     ROW(ROOM, sw_refusal_text(none[it], out, ROOM, &told), nothing_told(SW_NOTHING));
   }
 }

@@ -48,6 +48,7 @@ static void found(int32_t status) {
 ASKS(sw_pick, SW_LENIENT, BYTES(T(LONG_FIELD "en")), BYTES(T("fr\nen-x-a\nEN")), BYTES(T("fr")))
 ASKS(sw_filter, SW_LENIENT, BYTES(T(LONG_FIELD "en")), BYTES(T("fr\nen-x-a\nEN")))
 ASKS(sw_refusal, 18)
+ASKS(sw_refusal_code, 18)
 ASKS(sw_refusal_text, 18)
 
 MAKES(sw_site_open, BYTES(T(PARIS)), &site)

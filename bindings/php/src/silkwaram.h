@@ -57,6 +57,7 @@ int32_t sw_site_changes(sw_site *site, sw_site *other, char *out, size_t out_len
 int32_t sw_filter(uint32_t flags, const char *field, size_t field_len, const char *tags,
     size_t tags_len, char *out, size_t out_len, sw_told *told);
 int32_t sw_refusal(uint32_t number, char *out, size_t out_len, sw_told *told);
+int32_t sw_refusal_code(uint32_t number, char *out, size_t out_len, sw_told *told);
 int32_t sw_refusal_text(uint32_t number, char *out, size_t out_len, sw_told *told);
 int32_t sw_site_share(sw_site *site, sw_site *other);
 void sw_site_free(sw_site *site);
