@@ -54,6 +54,10 @@ ghost use Rattle.docs_core.specs.Replaying.{Replays};
 ghost use Rattle.site_docs.specs.RowsInTime.{AreInTime};
 ghost use Rattle.docs_core.specs.Updating.{AreChanges, IsUpdated, RefusesUpdate, Updates};
 
+pub use query_docs::laws::{
+    a_label_count_is_of_messages, a_listed_language_has_a_label, label_counts_add_up_to_the_labels,
+    label_counts_of_parts_add_up, one_list_of_label_counts,
+};
 pub use row_docs::laws::a_written_text_is_one_line;
 pub use script_docs::laws::{a_written_field_is_the_shortest, one_script};
 pub use site_docs::laws::{

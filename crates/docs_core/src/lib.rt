@@ -6,14 +6,15 @@
 //! - [`edit_document`], [`import_document`], [`update_document`], [`export_document`],
 //!   [`bundle_document`], [`missing_document`], [`outdated_document`], [`changes_document`],
 //!   [`sync_documents`], [`merge_documents`], [`summary_document`], [`delta_document`],
-//!   [`take_document`], [`ask_document`] and [`status_document`] work on whole documents, from
-//!   bytes to bytes. [`Checks`] say what an exchange tests of what comes in, and [`Shows`] whether
-//!   a summary shows labels. [`two_documents`] and [`Lines`] cut an input into its documents.
+//!   [`take_document`], [`ask_document`], [`labels_document`] and [`status_document`] work on whole
+//!   documents, from bytes to bytes. [`Checks`] say what an exchange tests of what comes in, and
+//!   [`Shows`] whether a summary shows labels. [`two_documents`] and [`Lines`] cut an input into
+//!   its documents.
 //! - [`read_message`] reads of a site what a question about one message needs.
-//! - [`filter_lines`], [`reply_line`], [`status_line`], [`changes_lines`], [`write_live_labels`],
-//!   [`write_missing`], [`write_outdated`] and [`write_bundle`] write the answers of a site in
-//!   memory, without its document, [`summary_of_site`] its summary, and [`delta_of_site`] the delta
-//!   for another; [`put_labels`] and [`update_labels`] edit it.
+//! - [`filter_lines`], [`reply_line`], [`status_line`], [`changes_lines`], [`labels_lines`],
+//!   [`write_live_labels`], [`write_missing`], [`write_outdated`] and [`write_bundle`] write the
+//!   answers of a site in memory, without its document, [`summary_of_site`] its summary, and
+//!   [`delta_of_site`] the delta for another; [`put_labels`] and [`update_labels`] edit it.
 //! - [`replay`] runs the script of a [`Source`] and writes the lines of its answers to a [`Sink`];
 //!   [`read_all`] and [`write_out`] are its two ends. [`Input`] and [`Output`] make a source and a
 //!   sink of `std`'s `Read` and `Write`.
@@ -46,9 +47,9 @@ pub use lines::{Lines, two_documents};
 pub use map_docs::{LangMaps, read_langmaps, write_langmaps};
 pub use query_docs::{
     Ask, answer_lines, ask_document, bundle_document, bundle_document_by, changes_document,
-    changes_lines, export_document, filter_lines, missing_document, outdated_document,
-    read_message, reply_line, status_document, status_line, write_bundle, write_bundle_by,
-    write_live_labels, write_missing, write_outdated,
+    changes_lines, export_document, filter_lines, labels_document, labels_lines, missing_document,
+    outdated_document, read_message, reply_line, status_document, status_line, write_bundle,
+    write_bundle_by, write_live_labels, write_missing, write_outdated,
 };
 pub use script_docs::{Script, read_script, write_script};
 pub use site_docs::{

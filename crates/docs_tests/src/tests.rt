@@ -7,6 +7,7 @@ mod changes;
 mod doc;
 mod documents;
 mod exchange;
+mod labels;
 mod lang_maps;
 mod lines;
 mod merges;

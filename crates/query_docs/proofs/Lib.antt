@@ -5,6 +5,8 @@ pub mod ChangesLemmas
 pub mod ChosenLemmas
 pub mod DraftLemmas
 pub mod ExportingLemmas
+pub mod LabelsLaws
+pub mod LabelsLemmas
 pub mod LinesLemmas
 pub mod LiveCellsLemmas
 pub mod OfferedCellsLemmas

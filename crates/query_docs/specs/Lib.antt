@@ -6,6 +6,7 @@ pub mod Changes
 pub mod Chosen
 pub mod Draft
 pub mod Exporting
+pub mod Labels
 pub mod Lines
 pub mod LiveCells
 pub mod LiveCellsLookup

@@ -172,7 +172,7 @@ impl Lines {
     }
 
     /// Adds `WORD N`.
-    fn count(self, word: &str, count: usize) -> Result<Lines, AllocError>
+    pub(crate) fn count(self, word: &str, count: usize) -> Result<Lines, AllocError>
         ensures { IfOk result (λ new. new ≡ self ++ ((word.now ++ 32 ∷ decimal count) ++ 10 ∷ [])) }
     {
         self.text(word)?.text(" ")?.number(count)?.text("\n")

@@ -60,5 +60,6 @@ fn ends_so(bytes: &[u8], line: &str) -> bool {
 
 /// Whether an answer of this line has found nothing.
 fn is_nothing(line: &str) -> bool {
-    line == "{}" || line == "nothing" || line == "filter 0" || line == "changes 0"
+    let nothing = ["{}", "nothing", "filter 0", "changes 0", "labels 0"];
+    nothing.contains(&line)
 }
