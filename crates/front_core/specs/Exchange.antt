@@ -9,7 +9,9 @@ use Rattle.summary_docs.specs.Reading.{ReadsAsShown, RefusesShown}
 use Rattle.summary_docs.specs.Shown.{ShownState, delta_for}
 use Rattle.summary_docs.specs.Writing.{IsSummaryBy}
 use Rattle.query_docs.specs.Exporting.{live_labels}
+use Rattle.query_docs.specs.Labels.{AnswersLabels}
 use Rattle.query_docs.specs.Status.{status_line}
+use Rattle.front_core.specs.Ask.{is_found}
 use Rattle.front_core.specs.Fault.{IsOf, document_fault}
 use Rattle.front_core.specs.Preferences.{Text}
 use Rattle.front_core.specs.declared.answer.Answer.{Answer}
@@ -18,20 +20,23 @@ use Rattle.front_core.specs.declared.exchange.View.{View}
 use Rattle.front_core.specs.declared.exchange.View.TheVariants as view
 use Rattle.front_core.specs.declared.fault.FrontFault.{FrontFault}
 
--- the text of the site
-abbrev pub IsView : View → SiteState → Text → Type 0
-IsView view.Document site = IsSiteText site
-IsView (view.Summary shows) site = IsSummaryBy shows site
-IsView view.Status site = λ text. text ≡ status_line site
-IsView view.Export site = IsTextOf (live_labels site.cells)
+-- the text is such a one, and counts as found
+abbrev IsFoundText : (Text → Type 0) → Answer → Type 0
+IsFoundText Is answer = Is answer.text × (answer.outcome ≡ Found)
+
+-- the text of the site; that of its labels has found something if there are any
+abbrev pub ShowsView : View → SiteState → Answer → Type 0
+ShowsView view.Document site = IsFoundText (IsSiteText site)
+ShowsView (view.Summary shows) site = IsFoundText (IsSummaryBy shows site)
+ShowsView view.Status site = IsFoundText (λ text. text ≡ status_line site)
+ShowsView view.Export site = IsFoundText (IsTextOf (live_labels site.cells))
+ShowsView view.Labels site =
+    λ answer. AnswersLabels site.cells answer.text (is_found answer.outcome)
 
 -- the text of the site of a document
-abbrev pub IsViewOf : View → Text → Text → Type 0
-IsViewOf asked bytes text = (site : SiteState) × ReadsAsSite bytes site × IsView asked site text
-
--- the text, which counts as found
-abbrev pub ShowsView : View → SiteState → Answer → Type 0
-ShowsView asked site answer = IsView asked site answer.text × (answer.outcome ≡ Found)
+abbrev pub ShowsViewOf : View → Text → Answer → Type 0
+ShowsViewOf asked bytes answer =
+    (site : SiteState) × ReadsAsSite bytes site × ShowsView asked site answer
 
 -- the cells that the summary lacks, for its owner
 abbrev pub IsDelta : SiteState → Text → Answer → Type 0

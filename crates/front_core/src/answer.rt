@@ -7,9 +7,10 @@ use docs_core::Doc;
 /// Whether an answer has found anything.
 #[derive(Clone, Copy, Debug, PartialEq, Eq)]
 pub enum Outcome {
-    /// The answer has a tag, a label or a line, or it is one of a whole site.
+    /// The answer has a tag, a label or a line, or it is the document, the summary, the delta, the
+    /// status or the export of a site.
     Found,
-    /// The answer is `nothing`, `filter 0` or `{}`.
+    /// The answer is `nothing`, `filter 0`, `changes 0`, `labels 0` or `{}`.
     Nothing,
 }
 
@@ -54,6 +55,13 @@ impl Answer {
         ensures { result ≡ record { text = text; outcome = outcome } }
     {
         Answer { text, outcome }
+    }
+
+    /// The answer of this text, which counts as found.
+    pub(crate) fn found(text: Doc) -> Answer
+        ensures { result ≡ record { text = text; outcome = Outcome.Found } }
+    {
+        Answer::new(text, Outcome::Found)
     }
 
     /// The answer of a text that has found something if `written.1`.

@@ -2,13 +2,13 @@
 ghost use Rattle.std.specs.Prelude.{MatchResult};
 ghost use Rattle.front_core.specs.Exchange.{IsDelta, RefusesDelta};
 
-use crate::answer::{Answer, Outcome};
+use crate::answer::Answer;
 use crate::ask::{Question, SiteIn};
 use crate::fault::FrontFault;
 use cata_core::Site;
 use docs_core::{
-    Doc, DocFault, Shows, delta_of_site, export_document, read_site, status_document, status_line,
-    summary_document, summary_of_site, write_live_labels, write_site,
+    DocFault, Shows, delta_of_site, export_document, labels_document, labels_lines, read_site,
+    status_document, status_line, summary_document, summary_of_site, write_live_labels, write_site,
 };
 use std::alloc::{AllocError, Global};
 
@@ -24,6 +24,8 @@ pub enum View {
     Status,
     /// The language maps of all its labels.
     Export,
+    /// `labels N` and N lines: each language that has labels, and how many.
+    Labels,
 }
 
 impl View {
@@ -31,39 +33,41 @@ impl View {
     ghost use Rattle.json_docs.specs.FaultChecks.{OrMemory};
     ghost use Rattle.row_docs.specs.Reading.{IsOfDocument, no_memory};
     ghost use Rattle.site_docs.specs.Reading.{ReadsAsSite, RefusesSite};
-    ghost use Rattle.front_core.specs.Exchange.{IsView, IsViewOf};
+    ghost use Rattle.front_core.specs.Exchange.{ShowsView, ShowsViewOf};
 
     /// The text of the site of a document.
-    fn of_document(self, alloc: Global, bytes: &[u8]) -> Result<Doc, DocFault>
-        ensures { MatchResult result (IsViewOf self bytes.now)
+    fn of_document(self, alloc: Global, bytes: &[u8]) -> Result<Answer, DocFault>
+        ensures { MatchResult result (ShowsViewOf self bytes.now)
             (OrMemory no_memory (IsOfDocument 1 (RefusesSite bytes.now))) }
     {
         match self {
             View::Document => {
                 let site = read_site(alloc, bytes)?;
                 let text = write_site(alloc, &site)?;
-                Ok(text)
+                Ok(Answer::found(text))
             }
-            View::Summary(shows) => summary_document(alloc, bytes, shows),
-            View::Status => status_document(alloc, bytes),
-            View::Export => export_document(alloc, bytes),
+            View::Summary(shows) => Ok(Answer::found(summary_document(alloc, bytes, shows)?)),
+            View::Status => Ok(Answer::found(status_document(alloc, bytes)?)),
+            View::Export => Ok(Answer::found(export_document(alloc, bytes)?)),
+            View::Labels => Ok(Answer::of(labels_document(alloc, bytes)?)),
         }
     }
 
     /// The text of a site in memory.
-    fn of_site(self, alloc: Global, site: &Site) -> Result<Doc, AllocError>
-        ensures { IfOk result (IsView self site.now) }
+    fn of_site(self, alloc: Global, site: &Site) -> Result<Answer, AllocError>
+        ensures { IfOk result (ShowsView self site.now) }
     {
         match self {
-            View::Document => write_site(alloc, site),
-            View::Summary(shows) => summary_of_site(alloc, site, shows),
-            View::Status => status_line(alloc, site),
-            View::Export => write_live_labels(alloc, site.catalogue()),
+            View::Document => Ok(Answer::found(write_site(alloc, site)?)),
+            View::Summary(shows) => Ok(Answer::found(summary_of_site(alloc, site, shows)?)),
+            View::Status => Ok(Answer::found(status_line(alloc, site)?)),
+            View::Export => Ok(Answer::found(write_live_labels(alloc, site.catalogue())?)),
+            View::Labels => Ok(Answer::of(labels_lines(alloc, site.catalogue())?)),
         }
     }
 }
 
-/// The text, which counts as found.
+/// The text, which counts as found, but for `labels 0`.
 impl Question for View {
     ghost use Rattle.front_core.specs.Exchange.{ShowsView};
 
@@ -71,14 +75,8 @@ impl Question for View {
 
     fn answer(&self, alloc: Global, site: SiteIn<'_>) -> Result<Answer, FrontFault> {
         match site {
-            SiteIn::Document(bytes) => {
-                let text = self.of_document(alloc, bytes)?;
-                Ok(Answer::new(text, Outcome::Found))
-            }
-            SiteIn::Open(site) => {
-                let text = self.of_site(alloc, site)?;
-                Ok(Answer::new(text, Outcome::Found))
-            }
+            SiteIn::Document(bytes) => Ok(self.of_document(alloc, bytes)?),
+            SiteIn::Open(site) => Ok(self.of_site(alloc, site)?),
         }
     }
 }
@@ -91,5 +89,5 @@ pub fn delta(alloc: Global, site: &Site, summary: &[u8]) -> Result<Answer, Front
     ensures { MatchResult result (IsDelta site.now summary.now) (RefusesDelta summary.now) }
 {
     let text = delta_of_site(alloc, site, summary)?;
-    Ok(Answer::new(text, Outcome::Found))
+    Ok(Answer::found(text))
 }

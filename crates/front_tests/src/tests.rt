@@ -8,6 +8,7 @@ mod shares;
 mod site;
 mod tag_filter;
 mod tag_pick;
+mod views;
 mod widening;
 mod words;
 mod written;
