@@ -12,7 +12,8 @@
 //! - [`sw_site_new`] makes a site; [`sw_site_put`], [`sw_site_delete`], [`sw_site_import`] and
 //!   [`sw_site_update`] edit one, [`sw_site_take`] and [`sw_site_merge`] join edits of others, and
 //!   all of these leave the other handles of it as they are.
-//! - [`sw_site_write`], [`sw_site_summary`], [`sw_site_status`] and [`sw_site_delta`] write it.
+//! - [`sw_site_write`], [`sw_site_summary`], [`sw_site_status`], [`sw_site_labels`] and
+//!   [`sw_site_delta`] write it.
 //! - [`sw_filter`] filters tags; [`sw_refusal`], [`sw_refusal_code`] and [`sw_refusal_text`]
 //!   explain a refusal.
 //! - [`sw_version`] is the version.
@@ -49,7 +50,8 @@ ghost use Rattle.front_c.specs.Calls.{ReportsTaken, ReportsUpdated, ReportsView,
 ghost use Rattle.front_c.specs.Reporting.{ReportsAnswer, ReportsLabelText};
 ghost use Rattle.front_c.specs.Handles.{site_of};
 ghost use Rattle.front_c.specs.Rules.{offered_by};
-ghost use Rattle.front_core.specs.declared.exchange.View.TheVariants.{Document, Export, Status};
+ghost use Rattle.front_core.specs.declared.exchange.View.TheVariants.{Document, Export, Labels};
+ghost use Rattle.front_core.specs.declared.exchange.View.TheVariants.{Status};
 
 mod handles;
 mod question;
@@ -347,6 +349,20 @@ pub extern "C" fn sw_site_export(
     ensures answer { ReportsView Export (site_of site.old) out.old out.new told.new result }
 {
     ask(alloc, site, Ok(View::Export), out, told)
+}
+
+/// Answers how many labels each language has, as the command `labels` prints it.
+#[unsafe(no_mangle)]
+pub extern "C" fn sw_site_labels(
+    alloc: Global,
+    site: &mut SiteHandle,
+    out: &mut [u8],
+    told: &mut Told,
+) -> i32
+    ensures site { site.new.value ≡ site.old.value }
+    ensures answer { ReportsView Labels (site_of site.old) out.old out.new told.new result }
+{
+    ask(alloc, site, Ok(View::Labels), out, told)
 }
 
 /// Answers the language maps of the messages that lack a language, as the command `missing` prints
