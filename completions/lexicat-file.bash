@@ -37,7 +37,7 @@ _lexicat_file_arguments() {
 
 _lexicat_file() {
     local word=${COMP_WORDS[COMP_CWORD]} site=1 folder=${BASH_SOURCE[0]%/*} file
-    local commands='new put delete status import update export missing outdated changes filter lookup bundle summary delta take sync merge confirm undo log conflicts doctor restore'
+    local commands='new put delete status import update export missing outdated changes labels filter lookup bundle summary delta take sync merge confirm undo log conflicts doctor restore'
     COMPREPLY=()
     # After a redirection comes a file.
     case ${COMP_WORDS[COMP_CWORD-1]} in

@@ -44,6 +44,7 @@ complete -c lexicat-file -n '__lexicat_file_has -eq 1' -a export -d 'The labels 
 complete -c lexicat-file -n '__lexicat_file_has -eq 1' -a missing -d 'The messages without a label of a language'
 complete -c lexicat-file -n '__lexicat_file_has -eq 1' -a outdated -d 'The messages whose label is older than its original'
 complete -c lexicat-file -n '__lexicat_file_has -eq 1' -a changes -d 'How a later state of the site differs'
+complete -c lexicat-file -n '__lexicat_file_has -eq 1' -a labels -d 'How many labels each language has'
 complete -c lexicat-file -n '__lexicat_file_has -eq 1' -a filter -d 'The labels of a message that fit, best first'
 complete -c lexicat-file -n '__lexicat_file_has -eq 1' -a lookup -d 'The one label of a message that fits best'
 complete -c lexicat-file -n '__lexicat_file_has -eq 1' -a bundle -d 'The one label of each message that fits best'

@@ -3,7 +3,7 @@
 
 _lexicat() {
     local word=${COMP_WORDS[COMP_CWORD]} before=${COMP_WORDS[COMP_CWORD-1]} command='' i
-    local commands='pick new put delete status import update export missing outdated changes filter lookup bundle summary delta take sync merge replay explain'
+    local commands='pick new put delete status import update export missing outdated changes labels filter lookup bundle summary delta take sync merge replay explain'
     COMPREPLY=()
     # Bash cuts words at "=": `--scheme=b` comes as three.
     if [[ $word == '=' ]]; then
@@ -29,7 +29,7 @@ _lexicat() {
         pick) options='--scheme --lenient --widen --default --all --help -h' ;;
         new) options='--site --help -h' ;;
         put | delete) options='--now --id --lang --help -h' ;;
-        status | export | changes | delta | replay) options='--help -h' ;;
+        status | export | changes | labels | delta | replay) options='--help -h' ;;
         import | update) options='--now --help -h' ;;
         missing) options='--lang --help -h' ;;
         outdated) options='--lang --source --help -h' ;;

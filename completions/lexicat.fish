@@ -2,7 +2,7 @@
 # Written by tools/completions from the help of the command.
 
 complete -c lexicat -f
-set -l commands pick new put delete status import update export missing outdated changes filter lookup bundle summary delta take sync merge replay explain
+set -l commands pick new put delete status import update export missing outdated changes labels filter lookup bundle summary delta take sync merge replay explain
 set -l first "not __fish_seen_subcommand_from $commands"
 complete -c lexicat -s h -l help -d 'Print help'
 complete -c lexicat -n "$first" -s V -l version -d 'Print version'
@@ -17,6 +17,7 @@ complete -c lexicat -n "$first" -a export -d 'Prints the labels of a site as lan
 complete -c lexicat -n "$first" -a missing -d 'Prints the messages that have labels, but none in LANG itself, as language maps'
 complete -c lexicat -n "$first" -a outdated -d 'Prints the messages whose label in one language is older than that in another, as language maps'
 complete -c lexicat -n "$first" -a changes -d 'Prints how the cells of two sites differ, such as one before and after an update'
+complete -c lexicat -n "$first" -a labels -d 'Prints how many labels each language of a site has'
 complete -c lexicat -n "$first" -a filter -d 'Prints the labels of a message whose languages fit, best first'
 complete -c lexicat -n "$first" -a lookup -d 'Prints the one label of a message that fits best, or the default'\''s, or nothing'
 complete -c lexicat -n "$first" -a bundle -d 'Prints for each message the one label that a reader gets, as language maps'

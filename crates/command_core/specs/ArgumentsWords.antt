@@ -194,6 +194,10 @@ outdated_app = with_rule (with_rule (new_app (codes "outdated")) lang_rule) sour
 abbrev pub changes_app : App
 changes_app = new_app (codes "changes")
 
+-- `labels`, without arguments
+abbrev pub label_counts_app : App
+label_counts_app = new_app (codes "labels")
+
 -- `update --now N`
 abbrev pub update_app : App
 update_app = with_rule (new_app (codes "update")) now_rule
@@ -259,8 +263,8 @@ sites_app app schemes =
 -- with what reads or writes many labels
 abbrev pub labels_app : App → App
 labels_app app =
-    under (under (under (under (under (under app import_app) update_app) export_app) missing_app)
-    outdated_app) changes_app
+    under (under (under (under (under (under (under app import_app) update_app) export_app)
+    missing_app) outdated_app) changes_app) label_counts_app
 
 -- with the questions of a reader to a site
 abbrev pub questions_app : App → Schemes → App

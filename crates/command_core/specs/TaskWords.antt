@@ -119,6 +119,7 @@ task_words name numbers rows =
     else (if bytes_eq name (codes "missing") then option_map Missing (first_of (codes "lang") rows)
     else (if bytes_eq name (codes "outdated") then option_map Outdated (outdated_words rows)
     else (if bytes_eq name (codes "changes") then Some Changes
+    else (if bytes_eq name (codes "labels") then Some (View view.Labels)
     else (if bytes_eq name (codes "filter") then option_map Filter (filter_words rows)
     else (if bytes_eq name (codes "lookup") then option_map Lookup (lookup_words rows)
     else (if bytes_eq name (codes "bundle") then
@@ -134,7 +135,7 @@ task_words name numbers rows =
     Some (Document (document.Merge (checks_words numbers.not_after rows)))
     else (if bytes_eq name (codes "replay") then Some Replay
     else (if bytes_eq name (codes "explain") then explain_task numbers.error
-    else None))))))))))))))))))))
+    else None)))))))))))))))))))))
 
 -- the task of the matched subcommand, with the numbers that its arguments give
 abbrev pub GivesTask : Option (Text × List Row) → Option TaskWords → Type 0

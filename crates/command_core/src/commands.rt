@@ -68,7 +68,17 @@ pub(crate) fn with_labels<'a>(
             Document 1 of the input ends at the first LF, and all after it is document 2.\n\
             Example: cat three.json four.json | lexicat changes",
     );
-    with_command(program, Ok(changes))
+    let program = with_command(program, Ok(changes));
+    let labels = reading(
+        alloc,
+        "labels",
+        "lexicat labels < SITE",
+        "Prints how many labels each language of a site has",
+        "Reads a site document. Prints 'labels N' and a line LANGUAGE COUNT for each of the N \
+            languages that have labels, @none first.\n\
+            Example: lexicat labels < three.json",
+    );
+    with_command(program, Ok(labels))
 }
 
 /// The program with the commands that question a site for a reader.

@@ -139,6 +139,7 @@ fn task_of<'m, 'a>(name: &str, matches: &'m ArgMatches<'a>) -> Option<Task<'m, '
             text_bytes(matches, "source")?,
         )),
         "changes" => Some(Task::Changes),
+        "labels" => Some(Task::View(View::Labels)),
         "filter" => Some(Task::Filter(
             text_bytes(matches, "id")?,
             offering_of(matches),

@@ -39,6 +39,7 @@ const DOCUMENTS: &str =
 0|missing --lang de|{"cells":[["m","en",5,"a",0,["a"]]],"kind":"site","site":"a","version":2}|{"m":{"en":"a"}}
 1|outdated --lang en --source de|{"cells":[["m","en",5,"a",0,["a"]]],"kind":"site","site":"a","version":2}|{}
 0|changes|{"cells":[],"kind":"site","site":"a","version":2} / {"cells":[["m","en",5,"a",0,["a"]]],"kind":"site","site":"a","version":2}|changes 1 / ["m","en",null,[5,"a",0,["a"]]]
+0|labels|{"cells":[["m","en",5,"a",0,["a"]]],"kind":"site","site":"a","version":2}|labels 1 / en 1
 0|filter --id m en|{"cells":[["m","en",5,"a",0,["a"]]],"kind":"site","site":"a","version":2}|filter 1 / en 1000 ["a"]
 0|lookup --id m --default en ja|{"cells":[["m","en",5,"a",0,["a"]]],"kind":"site","site":"a","version":2}|default en ["a"]
 0|bundle --widen en|{"cells":[["m","en-us",5,"a",0,["a"]]],"kind":"site","site":"a","version":2}|{"m":{"en-us":"a"}}

@@ -2,7 +2,7 @@ use Rattle.std.proofs.Common.{Ok, refl}
 use Rattle.command_core.proofs.ArgumentsLemmas.{with_command}
 use Rattle.command_core.proofs.commands.with_labels.Goals as goal
 
--- The program has these six subcommands after those that it had: each was added to what the one
+-- The program has these seven subcommands after those that it had: each was added to what the one
 -- before it gave, and where memory ended nothing is promised.
 pub returns : goal.returns
 returns c =
@@ -22,5 +22,9 @@ returns c =
     let with_outdated = with_command _ _ c.with_command-program-4.result c.outdated.result
     c.with_command-program-5.result with_missing c.outdated.ensures
     c.with_command-program-5.ensures in
+    let with_changes =
     with_command _ _ c.with_command-program-5.result (Ok c.reading-changes.result)
-    c.with_command.result with_outdated c.reading-changes.ensures c.with_command.ensures
+    c.with_command-program-6.result with_outdated c.reading-changes.ensures
+    c.with_command-program-6.ensures in
+    with_command _ _ c.with_command-program-6.result (Ok c.reading-labels.result)
+    c.with_command.result with_changes c.reading-labels.ensures c.with_command.ensures
