@@ -24,10 +24,6 @@ pub count_is : (cells : Entries) (counts : LabelCounts) → AreLabelCounts cells
 count_is cells counts are lang =
     ap (λ o. unwrap_or o 0) (are.each lang) ∙ counted (label_count lang cells)
 
--- no cells have no labels
-pub no_counts : AreLabelCounts [] []
-no_counts = record { ascend = tt; each = λ lang. refl }
-
 some_more : (n : ℕ) → Some (n + 1) ≡ if_any (n + 1)
 some_more n = let more : n + 1 ≡ suc n = omega arith in ap Some more ∙ ap if_any (sym more)
 
@@ -53,7 +49,7 @@ counted_more counts number each lang other =
     ] refl
 
 -- the labels of a language in cells with one more
-pub count_more : (lang : List ℕ) (cells : Entries) (e : Entry) → label_count lang (cells ++ e ∷ [])
+count_more : (lang : List ℕ) (cells : Entries) (e : Entry) → label_count lang (cells ++ e ∷ [])
     ≡ label_count lang cells + cond (is_label_of lang e) 1 0
 count_more lang cells e = sum_by_push (λ (x : Entry). cond (is_label_of lang x) 1 0) cells e
 
@@ -70,15 +66,3 @@ label_seen cells e old new labelled is are =
           (sym labelled)
           ∙ ap if_any (sym (count_more lang cells e));
     })
-
--- A cell without a label changes no count.
-pub deletion_seen : (cells : Entries) (e : Entry) (counts : LabelCounts) → is_labelled e ≡ false
-    → AreLabelCounts cells counts → AreLabelCounts (cells ++ e ∷ []) counts
-deletion_seen cells e counts deleted are = record {
-  ascend = are.ascend;
-  each = λ lang.
-      let none : cond {A = ℕ} (is_label_of lang e) 1 0 ≡ 0 =
-      ap (λ t. cond (t && is_eq (text_cmp lang e.0.1)) 1 0) deleted in
-      let more = count_more lang cells e in
-      are.each lang ∙ ap if_any (omega (arith, none, more));
-}
