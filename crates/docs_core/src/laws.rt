@@ -50,7 +50,7 @@ ghost use Rattle.docs_core.specs.Lines.{documents_of};
 ghost use Rattle.docs_core.specs.UpdatingChanges.{Change};
 ghost use Rattle.docs_core.specs.Merging.{AllAgree, IsMerged, ReadAsSites, RefusesMerge};
 ghost use Rattle.docs_core.specs.Merging.{RefusesOther, part_of_site};
-ghost use Rattle.docs_core.specs.Replaying.{Replays};
+ghost use Rattle.docs_core.specs.Replaying.{RefusesReplay, Replays};
 ghost use Rattle.site_docs.specs.RowsInTime.{AreInTime};
 ghost use Rattle.docs_core.specs.Updating.{AreChanges, IsUpdated, RefusesUpdate, Updates};
 
@@ -123,6 +123,8 @@ pub fn what_is_answered_is_not_refused()
         → IsImported bytes now maps text → ¬ RefusesImport bytes now maps fault }
     ensures update { (bytes : List ℕ) (now : ℕ) (old new text : List ℕ) (fault : DocFault)
         → IsUpdated bytes now old new text → ¬ RefusesUpdate bytes now old new fault }
+    ensures replay { (bytes text : List ℕ) (fault : DocFault)
+        → Replays bytes text → ¬ RefusesReplay bytes fault }
     // Those that read one site answer where it is read.
     ensures site { (bytes : List ℕ) (site : SiteState) (fault : DocFault)
         → ReadsAsSite bytes site → ¬ IsOfDocument 1 (RefusesSite bytes) fault }
@@ -146,6 +148,8 @@ pub fn one_refusal_of_a_call()
         → RefusesImport bytes now maps x → RefusesImport bytes now maps y → x ≡ y }
     ensures update { (bytes : List ℕ) (now : ℕ) (old new : List ℕ) (x y : DocFault)
         → RefusesUpdate bytes now old new x → RefusesUpdate bytes now old new y → x ≡ y }
+    ensures replay { (bytes : List ℕ) (x y : DocFault) → RefusesReplay bytes x
+        → RefusesReplay bytes y → x ≡ y }
     ensures site { (bytes : List ℕ) (x y : DocFault) → IsOfDocument 1 (RefusesSite bytes) x
         → IsOfDocument 1 (RefusesSite bytes) y → x ≡ y }
 {}

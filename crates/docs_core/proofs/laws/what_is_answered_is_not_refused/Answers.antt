@@ -3,6 +3,7 @@ use Rattle.docs_core.proofs.CallLaws.{edit_not_refused, import_not_refused, sync
 use Rattle.docs_core.proofs.CallLaws.{take_not_refused, update_not_refused}
 use Rattle.docs_core.proofs.CallRefusals.{site_not_refused}
 use Rattle.docs_core.proofs.MergingLaws.{merge_not_refused}
+use Rattle.docs_core.proofs.ReplayingLaws.{replay_not_refused}
 use Rattle.docs_core.proofs.laws.what_is_answered_is_not_refused.Goals as goal
 
 pub returns-clause-edit : goal.returns-clause-edit
@@ -28,6 +29,9 @@ returns-clause-import c = import_not_refused
 
 pub returns-clause-update : goal.returns-clause-update
 returns-clause-update c = update_not_refused
+
+pub returns-clause-replay : goal.returns-clause-replay
+returns-clause-replay c = replay_not_refused
 
 pub returns-clause-site : goal.returns-clause-site
 returns-clause-site c = site_not_refused 1
