@@ -32,7 +32,7 @@ from proof_map import Source, public_names, stated  # noqa: E402
 PAGE = "docs/maintaining/PROOFS.md"
 GATE = "docs/maintaining/GATE.md"
 WITHOUT_MUTANT = "### Public functions without a mutant"
-LAWS = ("laws.rt", "lang_map_laws.rt", "migration.rt")
+LAWS = ("laws.rt", "lang_map_laws.rt", "migration.rt", "promise.rt")
 TOKEN = re.compile(r"\[`([^`]+)`\]\(([^)]+)\)|`([^`]+)`")
 faults = []
 fault = faults.append

@@ -6,6 +6,7 @@ pub mod OutputEndings
 pub mod OutputStreams
 pub mod Program
 pub mod ProgramHelp
+pub mod Promise
 pub mod Status
 pub mod TaskActs
 pub mod TaskEditWords

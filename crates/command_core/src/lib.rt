@@ -25,6 +25,7 @@ mod fault_line;
 pub mod laws;
 mod output;
 mod program;
+pub mod promise;
 mod questions;
 mod sites;
 pub mod status;
