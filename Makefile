@@ -13,7 +13,7 @@ SOURCES := crates.txt $(shell command -v find > /dev/null && find crates \
 
 .PHONY: all help needs try try-session library browser demo test test-mutants plant \
 	bench bench-documents bench-front bench-beside install install-command install-library uninstall \
-	dist proofs clean
+	dist proofs audit clean
 
 .DEFAULT_GOAL := all
 
@@ -197,6 +197,11 @@ dist:
 #:                    function and law with its sentence, clauses and definitions (docs/maintaining/PROOFS.md)
 proofs:
 	tools/proofs
+
+#: make audit         what has to be read to know what a contract says, with all definitions that it
+#:                    stands on: of the promise, or of NAMES="run sw_pick"
+audit:
+	@tools/audit $(or $(NAMES),promise::the_promise)
 
 #: make clean         removes what was built, and what was kept of proofs
 clean:
