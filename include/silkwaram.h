@@ -311,13 +311,15 @@ int32_t sw_site_delta(sw_site *site, const uint8_t *summary, size_t summary_len,
                       sw_told *told); /* since 0.3, reads a summary document */
 
 /* The language maps of all labels, of the messages that lack a language, and of those whose label in `lang` is older
- * than that in `source`; and what changed from a site to that of another handle, as `changes N` and N lines. They are
- * what the commands `export`, `missing`, `outdated` and `changes` print.
+ * than that in `source`; how many labels each language has, as `labels N` and N lines; and what changed from a site to
+ * that of another handle, as `changes N` and N lines. They are what the commands `export`, `missing`, `outdated`,
+ * `labels` and `changes` print.
  *   SW_FOUND     there is at least one; of sw_site_export always
- *   SW_NOTHING   there is none; the answer is `{}` or `changes 0`
+ *   SW_NOTHING   there is none; the answer is `{}`, `labels 0` or `changes 0`
  *   SW_USAGE     a handle is not open
  *   SW_REFUSED   `lang`, then `source` (1 to 4) */
 int32_t sw_site_export(sw_site *site, uint8_t *out, size_t out_len, sw_told *told); /* since 0.3 */
+int32_t sw_site_labels(sw_site *site, uint8_t *out, size_t out_len, sw_told *told); /* since 0.4 */
 int32_t sw_site_missing(sw_site *site, const uint8_t *lang, size_t lang_len, uint8_t *out, size_t out_len,
                         sw_told *told); /* since 0.3 */
 int32_t sw_site_outdated(sw_site *site, const uint8_t *lang, size_t lang_len, const uint8_t *source, size_t source_len,

@@ -151,6 +151,8 @@ export interface Status {
 export class Refused extends Error {
   /** The number of the refusal (docs/REFUSALS.md of the sources). 26 is out of memory: the call may be repeated. */
   readonly number: number;
+  /** The word of that number, such as `clock-ahead`. */
+  readonly code: string;
   /** The place in the refused text, in bytes of UTF-8 from 0, where the refusal has one. */
   readonly offset: number | null;
   /** The row of the document, from 0, where a document is refused for one of its rows. */
@@ -260,6 +262,8 @@ export interface Site extends Asked {
   /** The delta for the owner of a summary: what they lack, as a document. Refused: the summary. */
   deltaFor(summary: Text): string;
   status(): Status;
+  /** How many labels each language has. */
+  labels(): Record<string, number>;
   /** The messages that have a label but none of just this language, with all their labels. Refused: 1 to 4. */
   missing(lang: Text): LanguageMaps;
   /** The messages whose label in the source is later than that in this language. Refused: `lang`, `source` (1 to 4). */

@@ -41,7 +41,7 @@ const NEEDED = 'WebAssembly with SIMD and bulk memory, and BigInt at its border'
 
 /** What is thrown where something is refused. */
 export class Refused extends Error {
-  constructor(text, wanted, { number, given = 0, offset, row, count }) {
+  constructor(text, wanted, { number, given = 0, offset, row, count }, code) {
     const at = given & HAS_OFFSET ? offset : null;
     const place = given & HAS_COUNT ? count : null;
     const filled = (text ?? 'unknown').replace('OFFSET', at ?? 'OFFSET').replace(/INDEX|COUNT|PLACE/, place ?? '$&');
@@ -50,6 +50,7 @@ export class Refused extends Error {
     super(`refused ${number}: ${filled}${ofRow}${ofDocument}${wanted ? ` (${wanted})` : ''}`);
     this.name = 'Refused';
     this.number = number;
+    this.code = code ?? '';
     this.offset = at;
     this.row = given & HAS_ROW ? row : null;
     this.count = place;
@@ -66,7 +67,8 @@ function documentOf({ name, number }) {
 
 /** What is thrown if the module refuses a call of silkwaram.h. */
 function refusalOf(calls, report, wanted = documentOf(report)) {
-  return new Refused(calls.refusalText(report.number), wanted ?? calls.meaning(report.number), report);
+  const { number } = report;
+  return new Refused(calls.refusalText(number), wanted ?? calls.meaning(number), report, calls.code(number));
 }
 
 function wrongType(name, wanted) {
@@ -225,6 +227,11 @@ function statusOf(line) {
     labels: Number(labels),
     last: last === 'none' ? null : stampOf(...last.split(' ')),
   };
+}
+
+// The counts of lines `LANGUAGE COUNT`.
+function countsOf(lines) {
+  return Object.fromEntries(lines.map((line) => line.split(' ')).map(([lang, count]) => [lang, Number(count)]));
 }
 
 // The lines of an answer without the first, which counts them.
@@ -444,6 +451,11 @@ class Module {
   // What is wanted where this number refuses, or null.
   meaning(number) {
     return this.#said('sw_refusal', number);
+  }
+
+  // The word of a refusal with this number, or null.
+  code(number) {
+    return this.#said('sw_refusal_code', number);
   }
 
   // What the command prints of a refusal with this number, or null.
@@ -670,6 +682,11 @@ function siteClass(calls) {
 
     status() {
       return statusOf(this[ask]('status'));
+    }
+
+    labels() {
+      const lines = this[ask]('labels');
+      return lines === null ? {} : countsOf(linesIn(lines));
     }
 
     missing(lang) {

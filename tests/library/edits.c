@@ -214,6 +214,7 @@ static void questions(void) {
   ROW(ROOM, sw_site_missing(&site, BYTES(T("en")), out, ROOM, &told), answers(SW_NOTHING, 0, "{}\n"));
   ROW(ROOM, sw_site_missing(&site, BYTES(T("e n")), out, ROOM, &told), refused_at(3, 0));
   ROW(ROOM, sw_site_outdated(&site, BYTES(T("en")), BYTES(T("fr")), out, ROOM, &told), answers(SW_NOTHING, 0, "{}\n"));
+  ROW(ROOM, sw_site_labels(&site, out, ROOM, &told), answers(SW_FOUND, 0, "labels 1\nen 1\n"));
   DONE(sw_site_take(&site, 0, BYTES(T(DELTA_OF_B)), 0, &told), done);
   ROW(ROOM, sw_site_outdated(&site, BYTES(T("en")), BYTES(T("fr")), out, ROOM, &told), answers(SW_FOUND, 0, BOTH));
   ROW(ROOM, sw_site_outdated(&site, BYTES(T("e n")), BYTES(T("a")), out, ROOM, &told), refused_at(3, 0));
@@ -237,6 +238,7 @@ static void closed_handles(void) {
   ROW(ROOM, sw_site_status(&none, out, ROOM, &told), usage);
   ROW(ROOM, sw_site_delta(&none, BYTES(T(SUMMARY_OF_A)), out, ROOM, &told), usage);
   ROW(ROOM, sw_site_export(&none, out, ROOM, &told), usage);
+  ROW(ROOM, sw_site_labels(&none, out, ROOM, &told), usage);
   ROW(ROOM, sw_site_missing(&none, BYTES(en), out, ROOM, &told), usage);
   ROW(ROOM, sw_site_outdated(&none, BYTES(en), BYTES(en), out, ROOM, &told), usage);
   ROW(ROOM, sw_site_changes(&none, &site, out, ROOM, &told), usage);

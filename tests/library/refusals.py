@@ -3,8 +3,8 @@
 
 usage: refusals.py LEXICAT    (SILKWARAM_LIBRARY names the library, PYTHONPATH the package)
 
-Of each number sw_refusal_text has to answer the text of the page, and sw_refusal what `explain`
-prints as rule. Then the same input is given to the command and to the package for Python, of each
+Of each number sw_refusal_text has to answer the text of the page, sw_refusal_code its word, and
+sw_refusal what `explain` prints as rule. Then the same input is given to the command and to the package for Python, of each
 number that the page names for the library: what is raised has to have the number, offset, row and
 count of the line that the command prints, and to say the same.
 """
@@ -20,6 +20,8 @@ from questions import HAS_COUNT, HAS_OFFSET, HAS_ROW, refused  # noqa: E402
 from silkwaram import Refused, Site, filter_tags, pick  # noqa: E402
 from silkwaram._library import NOTHING, answered, library  # noqa: E402
 
+# The number, the word and the text at the head of a section.
+SECTION = r"^### (\d+), .*\n\n`([^`]+)`: `([^`]+)`"
 PAGE = os.path.join(os.path.dirname(os.path.realpath(__file__)), "../../docs/REFUSALS.md")
 NUMBERS = range(1, 31)
 NO_NUMBERS = (0, 31, 32, 256, 256 + 3, 2**31, 2**32 - 1)
@@ -175,7 +177,7 @@ def rule_of(lexicat, number):
 
 def texts_of(page):
     """The text of each number on the page; where the library has another, it is named below."""
-    texts = {int(number): text for number, text in re.findall(r"^### (\d+), .*\n\n`([^`]+)`", page, re.M)}
+    texts = {int(number): text for number, _, text in re.findall(SECTION, page, re.M)}
     below = page.split("\n## The library\n")[1]
     return {**texts, **{int(number): text for number, text in re.findall(r"of (\d+) `([^`]+)`", below)}}
 
@@ -209,10 +211,12 @@ def main(lexicat):
     with open(PAGE, encoding="utf-8") as file:
         page = file.read()
     texts = texts_of(page)
+    words = {int(number): word for number, word, _ in re.findall(SECTION, page, re.M)}
     rules = {number: rule_of(lexicat, number) for number in NUMBERS}
     faults.compare("numbers of the page", sorted(texts), list(NUMBERS))
     for number in NUMBERS:
         faults.compare(f"the text of {number}", said("sw_refusal_text", number), texts[number])
+        faults.compare(f"the word of {number}", said("sw_refusal_code", number), words[number])
         faults.compare(f"what is wanted of {number}", said("sw_refusal", number), rules[number])
     for number in NO_NUMBERS:
         faults.compare(number, [said(it, number) for it in ("sw_refusal_text", "sw_refusal")], [None, None])

@@ -130,6 +130,7 @@ class Sequence:
         self.asked("summary", [], ["summary"], own)
         self.asked("summary", [{"labels": True}], ["summary", "--labels"], own)
         self.asked("export", [], ["export"], own, read=json.loads)
+        self.asked("labels", [], ["labels"], own, read=counts)
         self.asked("status", [], ["status"], own, read=status)
         self.asked("deltaFor", [self.command.run(["summary"], other).decode()], ["delta"], own,
                    self.command.run(["summary"], other))
@@ -161,6 +162,12 @@ def status(text):
     _, site, _, cells, _, labels, _, *last = text.decode().split()
     return {"site": site, "cells": int(cells), "labels": int(labels),
             "last": None if last == ["none"] else stamp(*last)}
+
+
+def counts(text):
+    """The answer of `labels`."""
+    rows = (row.split() for row in text.decode().splitlines()[1:])
+    return {language: int(count) for language, count in rows}
 
 
 def cell(given):

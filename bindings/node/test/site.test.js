@@ -113,13 +113,14 @@ test('another object is no site, in the package and in its compiled part', () =>
 
 test('a site is made, edited and exchanged', () => {
   const [paris, tokyo] = [Site.new('paris'), Site.new('tokyo')];
-  assert.throws(() => Site.new('Paris'), { number: 27 });
+  assert.throws(() => Site.new('Paris'), { number: 27, code: 'site-name-invalid' });
   paris.put('greeting', 'fr', 'Bonjour', { now: 5 });
   tokyo.importMaps({ greeting: { ja: ['こんにちは', 'やあ'] } }, { now: 2n ** 60n });
   paris.take(tokyo.deltaFor(paris.summary()));
   tokyo.merge(paris);
   assert.deepEqual(paris.export(), tokyo.export());
   assert.deepEqual(paris.changes(tokyo), []);
+  assert.deepEqual([paris.labels(), Site.new('lima').labels()], [{ fr: 1, ja: 1 }, {}]);
   assert.deepEqual(paris.status(), {
     site: 'paris',
     cells: 2,

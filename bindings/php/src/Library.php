@@ -220,7 +220,7 @@ final class Library
 
     private function refused(): Refused
     {
-        // (read first, since the two calls below report to the same place)
+        // (read first, since the calls below report to the same place)
         [$number, $given] = [$this->told->number, $this->told->given];
         $offset = $given & self::HAS_OFFSET ? $this->told->offset : null;
         $row = $given & self::HAS_ROW ? $this->told->row : null;
@@ -228,6 +228,7 @@ final class Library
         $isOfSecond = ($given & self::OF_SECOND) !== 0;
         $text = $this->ask('sw_refusal_text', $number);
         $wanted = $this->ask('sw_refusal', $number);
-        return new Refused($number, $text, $wanted, $offset, $row, $count, $isOfSecond);
+        $word = $this->ask('sw_refusal_code', $number);
+        return new Refused($number, $text, $wanted, $offset, $row, $count, $isOfSecond, $word);
     }
 }

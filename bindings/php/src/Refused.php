@@ -20,6 +20,7 @@ final class Refused extends RuntimeException
      *     has (12), or the place of a cell in the receiving site, from 0 (13); else null.
      * @param bool $ofSecond Whether it is of the second of two documents, as the new maps of
      *     `Site::update`.
+     * @param string $word The word of the number, as `clock-ahead`.
      */
     public function __construct(
         public int $number,
@@ -28,7 +29,8 @@ final class Refused extends RuntimeException
         public ?int $offset = null,
         public ?int $row = null,
         public ?int $count = null,
-        public bool $ofSecond = false
+        public bool $ofSecond = false,
+        public string $word = ''
     ) {
         $filled = str_replace('OFFSET', (string) ($offset ?? 'OFFSET'), $text);
         $filled = str_replace(['INDEX', 'COUNT', 'PLACE'], (string) $count, $filled);

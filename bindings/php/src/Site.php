@@ -181,6 +181,22 @@ final class Site extends Questions
         ];
     }
 
+    /**
+     * How many labels each language has, in rising order of the languages.
+     *
+     * @return array<string, int>
+     */
+    public function labels(): array
+    {
+        $counts = [];
+        $lines = explode("\n", rtrim($this->library->ask('sw_site_labels', $this->held), "\n"));
+        foreach (array_slice($lines, 1) as $line) {
+            [$language, $count] = explode(' ', $line);
+            $counts[$language] = (int) $count;
+        }
+        return $counts;
+    }
+
     /** The document of the site, which `open` and the command `lexicat` read. */
     public function document(): string
     {

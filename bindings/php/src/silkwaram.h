@@ -49,6 +49,7 @@ int32_t sw_site_status(sw_site *site, char *out, size_t out_len, sw_told *told);
 int32_t sw_site_delta(sw_site *site, const char *summary, size_t summary_len, char *out,
     size_t out_len, sw_told *told);
 int32_t sw_site_export(sw_site *site, char *out, size_t out_len, sw_told *told);
+int32_t sw_site_labels(sw_site *site, char *out, size_t out_len, sw_told *told);
 int32_t sw_site_missing(sw_site *site, const char *lang, size_t lang_len, char *out, size_t out_len,
     sw_told *told);
 int32_t sw_site_outdated(sw_site *site, const char *lang, size_t lang_len, const char *source,

@@ -21,7 +21,7 @@ function refused(callable ...$calls): void
             $call();
             line('done');
         } catch (Refused $it) {
-            line([$it->getCode(), $it->offset, $it->row, $it->count, $it->ofSecond, $it->wanted]);
+            line([$it->getCode(), $it->word, $it->offset, $it->row, $it->count, $it->ofSecond, $it->wanted]);
             line($it->getMessage());
         } catch (InvalidArgumentException | JsonException $it) {
             line([get_class($it), $it->getMessage()]);
@@ -52,6 +52,7 @@ line([$share->export(), $paris->export(), $tokyo->missing('fr'), $paris->outdate
 line([$paris->changes($tokyo), $share->changes($paris)]);
 $lima = Site::new('lima');
 line([$paris->status(), $lima->status()]);
+line([$paris->labels(), $lima->labels()]);
 $lima->put('m', 'es', 'Hola', 2 ** 40);
 line($lima->status());
 $lima->put('m', 'x-note', 'ask Anna', 2 ** 40);

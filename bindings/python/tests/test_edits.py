@@ -57,7 +57,8 @@ class Edits(Case):
                 site.to_bytes(), b'{"cells":[],"kind":"site","site":"tokyo","version":2}\n'
             )
             self.assertEqual(site.status(), Status("tokyo", 0, 0, None))
-        self.refuses(27, Site.new, "Tokyo")
+            self.assertEqual(site.labels(), {})
+        self.assertEqual(self.refuses(27, Site.new, "Tokyo").code, "site-name-invalid")
 
     def test_a_put(self):
         self.site.put("m", "FR", "Bonjour", now=6)
@@ -179,6 +180,7 @@ class Reports(Case):
         with Site.open(PARIS) as site:
             self.assertEqual(site.export(), {"m": {"en": "Hello", "fr": "Salut"}})
             self.assertEqual(site.status(), Status("paris", 3, 2, Stamp(5, "paris", 2)))
+            self.assertEqual(list(site.labels().items()), [("en", 1), ("fr", 1)])
             self.assertEqual(site.missing("de"), {"m": {"en": "Hello", "fr": "Salut"}})
             self.assertEqual(site.missing("EN"), {})
             self.refuses(4, site.missing, "e")

@@ -102,6 +102,12 @@ def changes(lines: str) -> List[Change]:
     return [change(json.loads(line)) for line in lines.split("\n")[1:-1]]
 
 
+def counts(lines: str) -> Dict[str, int]:
+    """The counts of `labels N`, and then lines `LANGUAGE COUNT`."""
+    rows = (line.split() for line in lines.splitlines()[1:])
+    return {language: int(count) for language, count in rows}
+
+
 def status(line: str) -> Status:
     """The status of a site's status line: `site NAME cells N labels N last TIME NAME COUNT`."""
     _, name, _, cells, _, labels, _, *last = line.split()

@@ -28,7 +28,7 @@ def _text(number: int, offset: Optional[int], count: Optional[int]) -> str:
 
 
 class Refused(ValueError):
-    """An argument is refused, by `number`.
+    """An argument is refused, by `number`, for which `code` is the word, as `clock-ahead`.
 
     `offset` is the place in the refused text, in bytes from 0, and `row` the row of a document,
     from 0. `count` is the place of a text that is too long in its label (11), how many texts a
@@ -48,6 +48,7 @@ class Refused(ValueError):
     ) -> None:
         self.number, self.offset, self.row, self.count = number, offset, row, count
         self.of_second = of_second
+        self.code = _said("sw_refusal_code", number)
         self.wanted = wanted or _said("sw_refusal", number)
         of = "" if row is None else f" in row {row}"
         document = " of the second document" if of_second else ""

@@ -1,7 +1,7 @@
 """Sites that are open: their labels, edits of them, and what they exchange."""
 import json
 import threading
-from typing import Any, List, Mapping, Optional, Union
+from typing import Any, Dict, List, Mapping, Optional, Union
 
 from . import _answers
 from ._answers import Change, LanguageMaps, Status
@@ -185,6 +185,10 @@ class Site(Questions):
     def status(self) -> Status:
         """Returns the name of the site, how large it is, and its latest stamp."""
         return _answers.status(self._ask(library.sw_site_status).text.decode())
+
+    def labels(self) -> Dict[str, int]:
+        """Returns how many labels each language has, in rising order of the languages."""
+        return _answers.counts(self._ask(library.sw_site_labels).text.decode())
 
     def to_bytes(self) -> bytes:
         """Returns the document of the site, which `Site.open` and the command read."""

@@ -48,7 +48,7 @@ To see what happened:
   changes [LATER]         how a later state of SITE differs
   doctor                  whether all is well with SITE
 To read:
-  status, export, missing, outdated, filter, lookup, bundle
+  status, labels, export, missing, outdated, filter, lookup, bundle
 To begin again after a loss:
   restore BACKUP --site NAME [OTHER..]
                           makes SITE, with a new name, from a backup and other
@@ -629,7 +629,8 @@ COMMANDS = {
     "undo": Command(_undo, NOW, 1, MANY, "the file of a former state"),
     "restore": Command(_restore, {**LIMITS, "--site": 1}, 1, MANY, "the file of a backup"),
     **dict.fromkeys(
-        ("status", "export", "missing", "outdated", "filter", "lookup", "bundle", "summary"),
+        ("status", "labels", "export", "missing", "outdated", "filter", "lookup", "bundle",
+         "summary"),
         Command(_ask),
     ),
     "delta": Command(_ask_with_document, {}, 0, 1, "one file, or none"),
