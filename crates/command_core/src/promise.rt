@@ -11,12 +11,13 @@
 //! - **The edits are consistent**: no stamp is of two different edits of one label. A site gives
 //!   each of its edits a greater stamp than all that it holds. So this fails only if two sites have
 //!   one name, or if a site was put back to an older copy and edited again. An exchange that looks
-//!   for own edits notices both (30), since the site then lacks an edit of its own
-//!   ([`a_missing_own_edit_is_refused`](docs_core::laws::a_missing_own_edit_is_refused)). Two
-//!   labels under one stamp are noticed where they meet (13), in a sync or a merge, and in an
-//!   exchange of deltas if summaries have digests
+//!   for own edits is refused if it brings one that the site lacks (30, missing own edit;
+//!   [`a_missing_own_edit_is_refused`](docs_core::laws::a_missing_own_edit_is_refused)). Two labels
+//!   under one stamp are refused where they meet (13, duplicate timestamp): in a sync or a merge,
+//!   and in an exchange of deltas if summaries have digests
 //!   ([`a_checked_exchange_is_refused_as_a_sync_is`](
-//!   docs_core::laws::a_checked_exchange_is_refused_as_a_sync_is)).
+//!   docs_core::laws::a_checked_exchange_is_refused_as_a_sync_is)). Nothing notices two edits of
+//!   one stamp that were both overridden before they met.
 //! - **The sites took the same edits.** What a site took are its own edits and what came by merges
 //!   and deltas, however late. If an edit never arrives, the sites differ by it until it does.
 //! - **The script was replayed.** It is a script, memory did not run out, and its steps name sites,
