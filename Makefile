@@ -132,14 +132,10 @@ install: install-command install-library
 
 install-command: build/lexicat
 	install -d "$(BIN)" "$(SHARE)/man/man1" "$(SHARE)/man/man5"
-	install -d "$(SHARE)/bash-completion/completions" "$(SHARE)/zsh/site-functions"
-	install -d "$(SHARE)/fish/vendor_completions.d"
 	install -m 755 build/lexicat "$(BIN)/lexicat"
 	install -m 644 man/lexicat.1 "$(SHARE)/man/man1/lexicat.1"
 	install -m 644 man/lexicat-formats.5 "$(SHARE)/man/man5/lexicat-formats.5"
-	install -m 644 completions/lexicat.bash "$(SHARE)/bash-completion/completions/lexicat"
-	install -m 644 completions/_lexicat "$(SHARE)/zsh/site-functions/_lexicat"
-	install -m 644 completions/lexicat.fish "$(SHARE)/fish/vendor_completions.d/lexicat.fish"
+	tools/completions "$(SHARE)"
 	tools/programs "$(BIN)" ../share/silkwaram '$(shell realpath -m --relative-to='$(PREFIX)/bin' '$(LIBDIR)')'
 	(cd bindings/python/src/silkwaram && find . -name '*.py' -o -name py.typed) | while read -r it; do \
 		install -D -m 644 "bindings/python/src/silkwaram/$$it" "$(PACKAGE)/$$it" || exit 1; \
@@ -147,12 +143,8 @@ install-command: build/lexicat
 	"$$(tools/programs --python)" -m compileall -q $(if $(DESTDIR),-s '$(DESTDIR)' -p /) "$(PACKAGE)"
 	chmod -R u=rwX,go=rX "$(PACKAGE)"
 	for name in $(TOOLS); do \
-		install -m 644 man/$$name.1 "$(SHARE)/man/man1/$$name.1" && \
-		install -m 644 completions/lexicat-programs.bash "$(SHARE)/bash-completion/completions/$$name" || exit 1; \
+		install -m 644 man/$$name.1 "$(SHARE)/man/man1/$$name.1" || exit 1; \
 	done
-	install -m 644 completions/lexicat-file.bash "$(SHARE)/bash-completion/completions/lexicat-file"
-	install -m 644 completions/_lexicat-file completions/_lexicat-programs "$(SHARE)/zsh/site-functions"
-	install -m 644 completions/lexicat-file.fish "$(SHARE)/fish/vendor_completions.d/lexicat-file.fish"
 	install -d "$(UNITS)"
 	install -m 644 packaging/systemd/lexicat-exchange@.timer "$(UNITS)"
 	sed 's|@BIN@|$(PREFIX)/bin|' packaging/systemd/lexicat-exchange@.service > "$(UNITS)/lexicat-exchange@.service"

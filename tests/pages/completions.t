@@ -1,22 +1,24 @@
 #!/usr/bin/env python3
-"""Sees that the completions are those that tools/completions makes of the help, that each command
-and each option of the help is on the manual's page, and that the manual has each refusal; and the
-same of the options of its programs on files, and of the commands that lexicat-file takes. Bash, zsh,
-fish and mandoc look at their own files too, and the shells complete some lines. Reads the help of
-build/lexicat, or of the command that LEXICAT names, and that of the programs in build. Needed: bash;
-zsh, fish and mandoc, each for its own files.
+"""Sees that each command and each option of the help is on the manual's page and in the completions
+that tools/completions makes, and that the manual has each refusal; and the same of the options of its
+programs on files, and of the commands that lexicat-file takes. Bash, zsh, fish and mandoc look at
+their own files too, and the shells complete some lines. Reads the help of build/lexicat and of the
+programs beside it, or in the folder that PROGRAMS names. Needed: bash; zsh, fish and mandoc, each for
+its own files.
 
-The arguments of each command are compared with the completions of bash, zsh and fish, and with the
-synopses of man/lexicat.1 and docs/COMMAND.md: the names of the options in their order, which of
-them have to be given, which take a value and its name, the words that the value may be, and the
-names of the other arguments, which of them come once and which repeat.
+The arguments of each command are compared with the completion of bash, and with the synopses of
+man/lexicat.1 and docs/COMMAND.md: the names of the options in their order, which of them have to be
+given, which take a value and its name, the words that the value may be, and the names of the other
+arguments, which of them come once and which repeat.
 """
+import atexit
 import glob
 import os
 import re
 import shutil
 import subprocess
 import sys
+import tempfile
 
 HERE = os.path.dirname(os.path.realpath(__file__))
 sys.dont_write_bytecode = True
@@ -26,7 +28,10 @@ import completions_in_shells  # noqa: E402
 import tap  # noqa: E402
 
 ROOT = command_help.ROOT
+BUILD = os.path.abspath(os.environ.get("PROGRAMS", f"{ROOT}/build"))
 PROGRAMS = subprocess.check_output([f"{ROOT}/tools/programs", "--names"], text=True).split()
+COMPLETIONS = tempfile.mkdtemp()
+atexit.register(shutil.rmtree, COMPLETIONS)
 # What lexicat-file has beside the commands, and the commands that have to do with no site.
 OF_A_FILE = {"merge", "confirm", "undo", "log", "conflicts", "doctor", "restore"}
 OF_NO_SITE = {"pick", "replay", "explain"}
@@ -81,44 +86,11 @@ def forms_in_reference():
     return forms
 
 
-def forms_in_zsh():
-    """Returns the same of the completion of zsh, with the words of an option's value."""
-    forms = {}
-    for commands, given in re.findall(
-        r"^        ([a-z |]+)\) _arguments \$help ?(.*) ;;$", read("completions/_lexicat"), re.M
-    ):
-        options, arguments = [], []
-        for word in re.findall(r"'(?:[^']|'\\'')*'", given):
-            option = re.match(
-                r"'--([\w-]+)(=?)\[(?:\\.|[^]\\])*\](?::\w+:)?(?:\(([^)]*)\))?'$", word)
-            other = re.match(r"'([1*]):(\w+):(\{true\}|\(.*\))'$", word)
-            if option:
-                options.append((option[1], option[2] == "=", (option[3] or "").split()))
-            elif other:
-                arguments.append((other[2].upper(), other[1] == "*"))
-        forms.update(dict.fromkeys(commands.split(" | "), (options, arguments)))
-    return forms
-
-
-def options_in_fish():
-    """Returns the same of the options of fish."""
-    options = {}
-    for commands, rest in re.findall(
-        r"^complete -c lexicat -n '__fish_seen_subcommand_from ([a-z ]*)' (.*)$",
-        read("completions/lexicat.fish"), re.M,
-    ):
-        name = re.search(r"-l ([\w-]+)", rest)
-        words = re.search(r"-a '([^']*)'", rest)
-        for command in commands.split() if name else ():
-            options.setdefault(command, []).append(
-                (name[1], rest.startswith("-x "), words[1].split() if words else []))
-    return options
-
-
 def bash_offers(*words):
     """Returns what the completion of bash offers after these words."""
     script = (
-        '. completions/lexicat.bash; compopt() { :; }; COMP_WORDS=(lexicat "$@" ""); '
+        f'. {COMPLETIONS}/bash-completion/completions/lexicat; '
+        'compopt() { :; }; COMP_WORDS=(lexicat "$@" ""); '
         'COMP_CWORD=$((${#COMP_WORDS[@]} - 1)); _lexicat; printf "%s\\n" "${COMPREPLY[@]}"')
     words = ["bash", "-c", script, "bash", *words]
     return set(subprocess.check_output(words, cwd=ROOT, text=True).split())
@@ -131,18 +103,13 @@ def check_arguments(forms):
         if said != shown:
             fault(f"{what} has {said}, and its help {shown}")
 
-    manual, reference, zsh, fish = \
-        forms_in_manual(), forms_in_reference(), forms_in_zsh(), options_in_fish()
+    manual, reference = forms_in_manual(), forms_in_reference()
     for command, (_, options, others) in forms.items():
         arguments = [(it.name, it.repeats) for it in others]
-        taking = [(it.name, bool(it.value), it.words) for it in options]
         named = [(it.name, it.value, it.is_required) for it in options]
         spelled = [(it.name, "|".join(it.words) or it.value, it.is_required) for it in options]
-        for what, said, wanted in [
-            ("man", manual, named), ("docs/COMMAND.md", reference, spelled), ("zsh", zsh, taking),
-        ]:
+        for what, said, wanted in ("man", manual, named), ("docs/COMMAND.md", reference, spelled):
             compare(f"{what}: {command}", said.get(command), (wanted, arguments))
-        compare(f"fish: {command}", sorted(fish.get(command, [])), sorted(taking))
         offered = bash_offers(command)
         words = {word for it in others for word in it.words} | {f"--{it.name}" for it in options}
         compare(f"bash: {command}", offered, words | {"--help", "-h"})
@@ -158,7 +125,6 @@ def check_command(lexicat, forms):
         fault("the help names no command")
     if bash_offers() != {*forms, *command_help.options_in(command_help.help_of(lexicat))}:
         fault("bash: not the commands and options of the help")
-    faults.extend(said_by("tools/completions", "--check", lexicat))
     manual = read("man/lexicat.1")
     for command, form in forms.items():
         if f"\n.It Cm {command}\n" not in manual:
@@ -172,48 +138,50 @@ def check_command(lexicat, forms):
 
 
 def check_program(program):
-    """Checks that its manual has each option of its help, with a value where it has one, and that the
-    shells know it: lexicat-file by completions of its own with all options, and that of bash no
-    other."""
-    text = command_help.help_of(f"{ROOT}/build/{program}")
+    """Checks that its manual has each option of its help, with a value where it has one."""
+    text = command_help.help_of(f"{BUILD}/{program}")
     options = {it for it in command_help.options_in(text) if it.startswith("--")}
     with_value = set(re.findall(r"^ +(?:-\w, )?(--[a-z-]+) [A-Z]", text, re.M))
-    places = [("man", f"man/{program}.1", lambda it, has: rf"^\.It Fl {it[1:]}{' Ar ' if has else '$'}")]
-    if program == "lexicat-file":
-        bash = re.findall(r"compgen -W '(--[^']*)'", read(f"completions/{program}.bash"))
-        if set(re.findall("--[a-z-]+", " ".join(bash))) != options:
-            fault(f"bash: not the options of {program}")
-        places += [
-            ("zsh", f"completions/_{program}", lambda it, has: rf"{it}{'=' if has else ''}\["),
-            ("fish", f"completions/{program}.fish", lambda it, has: rf"{'-[xF] ' * has}-l {it[2:]} "),
-        ]
-    else:
-        for it in ("lexicat-programs.bash", "_lexicat-programs"):
-            if not re.search(rf"\b{program}\b", read(f"completions/{it}")):
-                fault(f"{it}: no {program}")
+    manual = read(f"man/{program}.1")
     for option in options - {"--help", "--version"}:
-        for what, path, pattern in places:
-            if not re.search(pattern(option, option in with_value), read(path), re.M):
-                fault(f"{what}: no {option} for {program}")
+        ending = " Ar " if option in with_value else "$"
+        if not re.search(rf"^\.It Fl {option[1:]}{ending}", manual, re.M):
+            fault(f"man: no {option} for {program}")
 
 
 def check_commands_of_a_file(forms):
-    """Checks that each command that has to do with a site is one of lexicat-file."""
+    """Checks that each command that has to do with a site is one of lexicat-file, with its options."""
     wanted = sorted({*forms, *OF_A_FILE} - OF_NO_SITE)
-    text = command_help.help_of(f"{ROOT}/build/lexicat-file")
-    bash = re.search("^    local commands='(.*)'", read("completions/lexicat-file.bash"), re.M)
-    for what, names in [
-        ("help of lexicat-file", command_help.commands_in(text)),
-        ("bash", bash[1].split() if bash else []),
-        ("zsh", re.findall("^        '([a-z]*):", read("completions/_lexicat-file"), re.M)),
-        ("fish", re.findall(" -eq 1. -a ([a-z]*) ", read("completions/lexicat-file.fish"))),
-    ]:
-        if sorted(names) != wanted:
-            fault(f"{what}: not the commands of lexicat-file")
+    text = command_help.help_of(f"{BUILD}/lexicat-file")
+    if sorted(command_help.commands_in(text)) != wanted:
+        fault("help of lexicat-file: not its commands")
+    if sorted(offered_of_a_file("")) != wanted:
+        fault("lexicat-file does not offer its commands")
+    offered = {it for name in wanted for it in offered_of_a_file(name, "--")}
+    offered |= {it for it in offered_by_file("--")}
+    for option in command_help.options_in(text):
+        if option.startswith("--") and option not in offered:
+            fault(f"lexicat-file does not offer {option}")
     for command in wanted:
+        of_lexicat = {f"--{it.name}" for it in forms[command].options} if command in forms else set()
+        # (a summary or maps are read from files, and the limits are lexicat-file's own)
+        if not of_lexicat <= {*offered_of_a_file(command, "--"), "--check-own"}:
+            fault(f"lexicat-file does not offer all options of {command}")
         line = rf"^\.It Cm ([a-z]+ , )*{command}( ,| Ar| Op| Fl|$)"
         if not re.search(line, read("man/lexicat-file.1"), re.M):
             fault(f"man: no {command} in that of lexicat-file")
+
+
+def offered_by_file(*words):
+    """Returns what lexicat-file offers for the last of these words."""
+    asked = [f"{BUILD}/lexicat-file", "--complete", *words]
+    lines = subprocess.check_output(asked, text=True).splitlines()
+    return [it.partition("\t")[0] for it in lines]
+
+
+def offered_of_a_file(*words):
+    """Returns the same behind the name of a file."""
+    return offered_by_file("site.json", *words)
 
 
 def compared(name, look, *words):
@@ -223,19 +191,19 @@ def compared(name, look, *words):
     tap.report(name, faults)
 
 
-def check_syntax(shell, pattern):
+def check_syntax(shell, files):
     """Has a shell look at its own files."""
-    for name in ["lexicat", "lexicat-file", *["lexicat-programs"] * (shell != "fish")]:
-        faults.extend(said_by(shell, "-n", f"completions/{pattern.format(name)}"))
+    for path in glob.glob(f"{COMPLETIONS}/{files}"):
+        faults.extend(said_by(shell, "-n", path))
 
 
 def check_by_programs():
     """Has each shell look at its own files and complete lines, and mandoc look at the manual."""
-    for shell, pattern in ("bash", "{}.bash"), ("zsh", "_{}"), ("fish", "{}.fish"):
+    for shell, files in ("bash", "bash-*/*/*"), ("zsh", "zsh/*/*"), ("fish", "fish/*/*"):
         syntax, lines = f"the syntax of the files of {shell}", f"lines completed in {shell}"
         if shutil.which(shell):
-            compared(syntax, check_syntax, shell, pattern)
-            tap.check(lines, completions_in_shells.faults_of, shell)
+            compared(syntax, check_syntax, shell, files)
+            tap.check(lines, completions_in_shells.faults_of, shell, COMPLETIONS, BUILD)
         else:
             tap.lacks(syntax, shell)
             tap.lacks(lines, shell)
@@ -248,8 +216,9 @@ def check_by_programs():
 
 
 def main():
-    lexicat = os.path.abspath(os.environ.get("LEXICAT", command_help.LEXICAT))
-    tap.needs(lexicat, f"{ROOT}/build/lexicat-file", "bash")
+    lexicat = f"{BUILD}/lexicat"
+    tap.needs(lexicat, f"{BUILD}/lexicat-file", "bash")
+    subprocess.run([f"{ROOT}/tools/completions", COMPLETIONS, BUILD], check=True)
     forms = command_help.forms_of(lexicat)
     compared("commands and options", check_command, lexicat, forms)
     compared("the arguments of each command", check_arguments, forms)

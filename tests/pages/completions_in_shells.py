@@ -1,6 +1,7 @@
-"""Completes lines in a real shell: bash, zsh or fish. In place of lexicat and of lexicat-file
-runs a script, which writes its arguments and its input into a file. A line is typed, then a tab and
-the end of the line, and the file shows what was completed.
+"""Completes lines in a real shell: bash, zsh or fish. In place of lexicat and of lexicat-file runs
+a script, which writes its arguments and its input into a file; what the shell asks of lexicat-file is
+passed on to the program. A line is typed, then a tab and the end of the line, and the file shows what
+was completed.
 """
 import os
 import pty
@@ -9,8 +10,6 @@ import select
 import shutil
 import tempfile
 import time
-
-ROOT = os.path.dirname(os.path.dirname(os.path.dirname(os.path.abspath(__file__))))
 
 # What is typed before the tab, and what lexicat then gets, as a pattern: its arguments and input.
 LINES = [
@@ -42,26 +41,37 @@ LINES = [
     ("lexicat-file zz_file.json delete --fo", "args:zz_file.json delete --force input:"),
     ("lexicat-file zz_file.json confirm --la", "args:zz_file.json confirm --lang=? input:"),
     ("lexicat-file zz_file.json take < zz", "args:zz_file.json take input:held"),
+    ("lexicat-file yy_site.json log gr", "args:yy_site.json log greeting input:"),
+    ("lexicat-file yy_site.json lookup --id go", "args:yy_site.json lookup --id good bye input:"),
+    ("lexicat-file yy_site.json put --lang fr", "args:yy_site.json put --lang fr-ca input:"),
+    ("lexicat-file yy_site.json put --lang=fr", "args:yy_site.json put --lang=fr-ca input:"),
+    ("lexicat-file yy_site.json conflicts --mine greeting e",
+     "args:yy_site.json conflicts --mine greeting en input:"),
 ]
+SITE = """\
+{"cells":[["good bye","fr-ca",1,"paris",0,["Au revoir"]],["greeting","en",2,"paris",0,["Hello"]]],\
+"kind":"site","site":"paris","version":2}
+"""
 
 # What completes, in an order in which each finds what it needs later.
 NAMES = ["lexicat-file", "lexicat"]
 
+# How a shell is started, and how it takes the completions.
 SETUP = {
     "bash": (
         ["bash", "--norc", "--noprofile", "-i"],
         ["PS1=; bind 'set enable-bracketed-paste off'",
-         *(f". {ROOT}/completions/{name}.bash" for name in NAMES)],
+         *(f". {{share}}/bash-completion/completions/{name}" for name in NAMES)],
     ),
     "zsh": (
         ["zsh", "-f", "-i"],
         ["unset zle_bracketed_paste; PS1=; setopt no_prompt_sp clobber",
-         f"fpath=({ROOT}/completions $fpath); autoload -Uz compinit; compinit -u -D"],
+         "fpath=({share}/zsh/site-functions $fpath); autoload -Uz compinit; compinit -u -D"],
     ),
     "fish": (
         ["fish", "--no-config", "-i"],
         ["function fish_prompt; end",
-         *(f"source {ROOT}/completions/{name}.fish" for name in NAMES)],
+         *(f"source {{share}}/fish/vendor_completions.d/{name}.fish" for name in NAMES)],
     ),
 }
 
@@ -69,6 +79,7 @@ SETUP = {
 # (the end of a shell that hangs)
 MOST_SECONDS = 300
 LEXICAT = """#!/bin/sh
+[ "$1" != --complete ] || LEXICAT="$PROGRAMS/lexicat" exec "$PROGRAMS/lexicat-file" "$@"
 if [ -t 0 ]; then held=; else held=$(cat); fi
 echo "args:$* input:$held" >> "$SAID"
 """
@@ -96,7 +107,7 @@ def wait(terminal, typed, is_there):
             raise TimeoutError(f"{typed!r} comes to nothing; the shell prints {printed!r}")
 
 
-def said_by(shell):
+def said_by(shell, share, programs):
     """What lexicat got at each line."""
     room = tempfile.mkdtemp()
     said = os.path.join(room, "said")
@@ -110,20 +121,23 @@ def said_by(shell):
     process, terminal = pty.fork()
     if process == 0:
         os.chdir(room)
-        os.environ.update(HOME=room, TERM="dumb", LC_ALL="C.UTF-8", SAID=said)
+        os.environ.update(HOME=room, TERM="dumb", LC_ALL="C.UTF-8", SAID=said,
+                          PROGRAMS=programs)
         os.environ.update(ZDOTDIR=room, XDG_CONFIG_HOME=room)
         os.environ["PATH"] = os.path.join(room, "bin") + ":" + os.environ["PATH"]
         os.execvp(command[0], command)
     try:
         done = os.path.join(room, "done")
         for line in setup:
-            os.write(terminal, f"{line}; touch {done}\n".encode())
+            os.write(terminal, f"{line.format(share=share)}; touch {done}\n".encode())
             wait(terminal, line, lambda: os.path.exists(done))
             os.remove(done)
         got = []
         for typed, _ in LINES:
             with open(os.path.join(room, "zz_file.json"), "w", encoding="utf-8") as file:
                 file.write("held")
+            with open(os.path.join(room, "yy_site.json"), "w", encoding="utf-8") as file:
+                file.write(SITE)
             open(said, "w", encoding="utf-8").close()
             os.write(terminal, typed.encode() + b"\t\n")
             wait(terminal, typed, lambda: os.path.getsize(said) > 0)
@@ -142,7 +156,7 @@ def said_by(shell):
         shutil.rmtree(room, ignore_errors=True)
 
 
-def faults_of(shell):
-    """What a shell completes otherwise than it has to."""
+def faults_of(shell, share, programs):
+    """What a shell completes otherwise than it has to, by the completions in a folder."""
     return [f"{typed!r} and a tab: {got!r}, wanted {wanted!r}"
-            for (typed, wanted), got in zip(LINES, said_by(shell)) if not re.fullmatch(wanted, got)]
+            for (typed, wanted), got in zip(LINES, said_by(shell, share, programs)) if not re.fullmatch(wanted, got)]

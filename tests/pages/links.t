@@ -23,7 +23,7 @@ import tap  # noqa: E402
 from markdown_links import LINK, TARGET, fault_of, lines_of, links_in, path_of  # noqa: E402
 
 MAP = "docs/maintaining/ARCHITECTURE.md"
-FOLDERS = ("bench", "bindings", "completions", "crates", "docs", "examples",
+FOLDERS = ("bench", "bindings", "crates", "docs", "examples",
            "include", "man", "packaging", "tests", "tools")
 STANDARDS = "docs/maintaining/STANDARDS.md"
 PAGES = ["README.md", MAP, "docs/maintaining/PROOFS.md", STANDARDS]

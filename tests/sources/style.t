@@ -53,7 +53,7 @@ ONE_NAME = re.compile(r" *(?:ghost )?use [^,]*$| *#\[")
 WORD_START = re.compile("(?<=[a-z0-9])(?=[A-Z])")
 TYPOGRAPHY = re.compile("[\u2013\u2014\u2018\u2019\u201c\u201d]")
 TEXTS = ("*.md", "Makefile", "docs/**/*", "man/*", "tests/**/*", "tools/**/*",
-         "completions/*", "examples/**/*", "bindings/**/*", "packaging/**/*", "include/*",
+         "examples/**/*", "bindings/**/*", "packaging/**/*", "include/*",
          "bench/**/*")
 
 

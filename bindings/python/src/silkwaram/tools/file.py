@@ -66,6 +66,8 @@ status is not 0. What changed is added to the log, SITE.changes.
 
   --wait SECONDS    wait no longer than this for a lock, else end with status 6
   --keep DAYS       keep the lines of the log for so many days (400)
+  --completion SHELL
+                    print the completion for bash, zsh or fish
   -h, --help        print this
   --version         print the version
 """
@@ -90,14 +92,17 @@ class Call(NamedTuple):
 
 
 class Command(NamedTuple):
-    """A command: what does it; its options here, each with how many words follow; and how many
-    files or ids it takes at least and at most, in words too."""
+    """A command: what does it; its options here, each with how many words follow; how many files or
+    ids it takes at least and at most, in words too; of what kind these are, the last of any more;
+    and whether its words are passed on to lexicat."""
 
     does: Callable[[Call], int]
     options: Dict[str, int] = {}
     least: int = 0
     most: float = 0
     takes: str = "no file"
+    names: Sequence[str] = ()
+    is_passed_on: bool = False
 
 
 def main(words: Optional[List[str]] = None) -> int:
@@ -106,6 +111,8 @@ def main(words: Optional[List[str]] = None) -> int:
 
 
 def _main(words: List[str]) -> int:
+    if words[:1] in (["--complete"], ["--completion"]):
+        return _complete(*words)
     wait, keep, words = _own_options(words)
     if len(words) < 2:
         PROGRAM.misused("SITE and COMMAND are needed")
@@ -118,6 +125,19 @@ def _main(words: List[str]) -> int:
     if {"-h", "--help"} & set(_before_texts(rest)):
         return _help(command, rest)
     return COMMANDS[command].does(Call(Place(PROGRAM, name, wait, keep), command, rest))
+
+
+def _complete(option: str, *words: str) -> int:
+    """Prints what a shell offers for the last of the words, or the script that asks for it."""
+    from ._completing import SCRIPTS, completions
+
+    if option == "--complete":
+        print_lines(completions(list(words), COMMANDS, OWN))
+    elif len(words) == 1 and words[0] in SCRIPTS:
+        print_text(SCRIPTS[words[0]].encode())
+    else:
+        PROGRAM.misused(f"--completion takes one of {', '.join(SCRIPTS)}")
+    return 0
 
 
 def _help(command: str, words: List[str]) -> int:
@@ -614,28 +634,38 @@ MANY = float("inf")
 NOW = {"--now": 1}
 LIMITS = {"--not-after": 1, "--no-limit": 0}
 TAKING = {**LIMITS, "--no-check-own": 0}
-# Those that lexicat has not, or not for files.
-OWN = ("merge", "confirm", "undo", "restore", "log", "conflicts", "doctor")
+# Those that lexicat has not, or not for files, and what they are for.
+OWN = {
+    "merge": "merges the sites in other files into the site",
+    "confirm": "gives a new time to labels that are still right",
+    "undo": "takes back the edits of the site since a former state",
+    "restore": "makes the site from a backup and other sites",
+    "log": "what was edited, when, and by which site",
+    "conflicts": "texts of this site that another one overrode",
+    "doctor": "whether all is well with the site",
+}
 COMMANDS = {
-    "new": Command(_new),
-    "put": Command(_put),
-    "delete": Command(_put),
-    "import": Command(_join, NOW, 0, 1, "one file, or none"),
-    "update": Command(_join, NOW, 0, 2, "two files, or none"),
-    "take": Command(_join, TAKING, 0, 1, "one file, or none"),
-    "sync": Command(_sync, TAKING, 1, 1, "one other file"),
-    "merge": Command(_merge, TAKING, 1, MANY, "the files of other sites"),
-    "confirm": Command(_confirm, {**NOW, "--lang": 1, "--source": 1}, 0, MANY),
-    "undo": Command(_undo, NOW, 1, MANY, "the file of a former state"),
-    "restore": Command(_restore, {**LIMITS, "--site": 1}, 1, MANY, "the file of a backup"),
+    "new": Command(_new, is_passed_on=True),
+    "put": Command(_put, {"--force": 0}, is_passed_on=True),
+    "delete": Command(_put, {"--force": 0}, is_passed_on=True),
+    "import": Command(_join, NOW, 0, 1, "one file, or none", ["file"]),
+    "update": Command(_join, NOW, 0, 2, "two files, or none", ["file"]),
+    "take": Command(_join, TAKING, 0, 1, "one file, or none", ["file"]),
+    "sync": Command(_sync, TAKING, 1, 1, "one other file", ["file"]),
+    "merge": Command(_merge, TAKING, 1, MANY, "the files of other sites", ["file"]),
+    "confirm": Command(_confirm, {**NOW, "--lang": 1, "--source": 1}, 0, MANY, names=["id"]),
+    "undo": Command(_undo, NOW, 1, MANY, "the file of a former state", ["file", "id"]),
+    "restore": Command(
+        _restore, {**LIMITS, "--site": 1}, 1, MANY, "the file of a backup", ["file"]
+    ),
     **dict.fromkeys(
         ("status", "labels", "export", "missing", "outdated", "filter", "lookup", "bundle",
          "summary"),
-        Command(_ask),
+        Command(_ask, is_passed_on=True),
     ),
-    "delta": Command(_ask_with_document, {}, 0, 1, "one file, or none"),
-    "changes": Command(_ask_with_document, {}, 0, 1, "one file, or none"),
-    "log": Command(_log, {}, 0, 2, "an id and a language at most"),
+    "delta": Command(_ask_with_document, {}, 0, 1, "one file, or none", ["file"]),
+    "changes": Command(_ask_with_document, {}, 0, 1, "one file, or none", ["file"]),
+    "log": Command(_log, {}, 0, 2, "an id and a language at most", ["id", "lang"]),
     "conflicts": Command(_conflicts, {**NOW, "--since": 1, "--mine": 2}),
     "doctor": Command(_doctor),
 }
