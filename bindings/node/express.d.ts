@@ -1,8 +1,11 @@
 import type { Asked, Label } from './node.js';
 
 export interface LanguagesOptions {
-  /** The site whose labels `req.label` gives, open or written. */
-  site: Asked;
+  /**
+   * The site whose labels `req.label` gives, open or written; or a function that returns it, which
+   * is called for each request.
+   */
+  site: Asked | (() => Asked);
   /** The languages that pages are in. */
   tags: readonly string[];
   /**

@@ -32,10 +32,17 @@ function labelIn(site, id, language, options) {
   return language === null ? null : site.lookup(id, language, options);
 }
 
+// The site that is asked now.
+function siteOf(given) {
+  const site = typeof given === 'function' ? given() : given;
+  const isSite = site instanceof Site || site instanceof WrittenSite;
+  if (!isSite) throw new TypeError('site must be a Site or a WrittenSite, or return one');
+  return site;
+}
+
 // Throws if the arguments cannot serve any reader.
 function check(site, tags, strict) {
-  const isSite = site instanceof Site || site instanceof WrittenSite;
-  if (!isSite) throw new TypeError('site must be a Site or a WrittenSite');
+  siteOf(site);
   if (typeof strict !== 'boolean') throw new TypeError('strict must be a boolean');
   if (!Array.isArray(tags)) throw new TypeError('tags must be an array of strings');
   if (tags.includes('@none')) throw new RangeError('@none is no language that a page can be in');
@@ -66,7 +73,8 @@ export function languages({
     // (a reader who excludes the default too still gets it, as RFC 9110 section 12.5.4 allows)
     const language = found ?? (strict ? null : first);
     req.language = language;
-    req.label = (id) => labelIn(site, id, language, { default: fallback, widen, offer });
+    const asked = siteOf(site);
+    req.label = (id) => labelIn(asked, id, language, { default: fallback, widen, offer });
     if (language !== null) res.setHeader('Content-Language', language);
     vary(res);
     next();

@@ -135,6 +135,23 @@ test('a label that a language lacks is that of the default', () => {
   assert.throws(() => req.label('@'), { number: 10 });
 });
 
+test('a function is asked for the site of each request', () => {
+  let site = new WrittenSite(GREETINGS);
+  const middleware = languages({ site: () => site, tags: TAGS });
+  const greeting = (req) => {
+    middleware(req, new http.ServerResponse(req), () => {});
+    return () => req.label('greeting')?.texts[0];
+  };
+  const earlier = greeting({ headers: { 'accept-language': 'fr' } });
+  site = Site.new('later');
+  site.put('greeting', 'fr', 'Salut');
+  assert.equal(greeting({ headers: { 'accept-language': 'fr' } })(), 'Salut');
+  // (a request goes on with the site that it began with)
+  assert.equal(earlier(), 'Bonjour');
+  site = null;
+  assert.throws(() => greeting({ headers: {} }), TypeError);
+});
+
 test('a tag that is not offered is given to no reader', async (t) => {
   const site = Site.open(GREETINGS);
   const port = async (offer, tags = TAGS) =>
@@ -160,6 +177,7 @@ test('arguments that can serve no reader are refused at once', () => {
   assert.throws(() => languages({ site, tags: 'en' }), TypeError);
   assert.throws(() => languages({ site }), TypeError);
   assert.throws(() => languages({ tags: ['en'] }), TypeError);
+  assert.throws(() => languages({ site: () => null, tags: ['en'] }), TypeError);
   assert.throws(() => languages({ site, tags: ['en'], widen: 'yes' }), TypeError);
   assert.throws(() => languages({ site, tags: ['en'], strict: 1 }), TypeError);
 });

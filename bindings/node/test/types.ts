@@ -73,7 +73,9 @@ const use = languages({ site, tags: ['en'] });
 const req: Parameters<typeof use>[0] = { headers: {} };
 use(req, { getHeader: () => undefined, setHeader: () => 0 }, () => {});
 const language: string | null | undefined = req.language;
-languages({ site, tags: ['en'], widen: true, strict: true });
+languages({ site: () => written, tags: ['en'], widen: true, strict: true });
+// @ts-expect-error
+languages({ site: () => null, tags: ['en'] });
 // @ts-expect-error
 languages({ tags: ['en'] });
 // @ts-expect-error

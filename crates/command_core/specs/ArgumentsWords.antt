@@ -254,11 +254,9 @@ bare_app =
 abbrev pub under : App → App → App
 under app command = with_subcommand app command.top
 
--- with `pick`, and with what is done at a site
-abbrev pub sites_app : App → Schemes → App
-sites_app app schemes =
-    under (under (under (under (under app (pick_app schemes)) new_site_app) put_app) delete_app)
-    status_app
+-- with what is done at a site
+abbrev pub sites_app : App → App
+sites_app app = under (under (under (under app new_site_app) put_app) delete_app) status_app
 
 -- with what reads or writes many labels
 abbrev pub labels_app : App → App
@@ -266,10 +264,11 @@ labels_app app =
     under (under (under (under (under (under (under app import_app) update_app) export_app)
     missing_app) outdated_app) changes_app) label_counts_app
 
--- with the questions of a reader to a site
+-- with the questions of a reader: `pick`, and those to a site
 abbrev pub questions_app : App → Schemes → App
 questions_app app schemes =
-    under (under (under app (filter_app schemes)) (lookup_app schemes)) (bundle_app schemes)
+    under (under (under (under app (pick_app schemes)) (filter_app schemes)) (lookup_app schemes))
+    (bundle_app schemes)
 
 -- with what sites exchange, with a replay of what they did, and with what a refusal is
 abbrev pub exchange_app : App → ErrorNames → App
@@ -280,4 +279,4 @@ exchange_app app names =
 -- the program with all its subcommands
 abbrev pub lexicat_app : Schemes → ErrorNames → App
 lexicat_app schemes names =
-    exchange_app (questions_app (labels_app (sites_app bare_app schemes)) schemes) names
+    exchange_app (questions_app (labels_app (sites_app bare_app)) schemes) names

@@ -15,16 +15,11 @@ use crate::arguments::{self, described, reading, with_command};
 use clap::Command;
 use std::alloc::{AllocError, Global};
 
-/// The program with the commands of one site, and `pick`, which needs none.
-pub(crate) fn with_sites<'a>(
-    alloc: Global,
-    program: Command<'a>,
-    schemes: &'a [&'a str],
-) -> Result<Command<'a>, AllocError>
-    ensures { IfOk result (λ c. app_of c ≡ sites_app (app_of program.entry) schemes.entry) }
+/// The program with the commands of one site.
+pub(crate) fn with_sites<'a>(alloc: Global, program: Command<'a>) -> Result<Command<'a>, AllocError>
+    ensures { IfOk result (λ c. app_of c ≡ sites_app (app_of program.entry)) }
 {
-    let program = with_command(Ok(program), pick(alloc, schemes));
-    let program = with_command(program, new(alloc));
+    let program = with_command(Ok(program), new(alloc));
     let program = with_command(program, put(alloc));
     let program = with_command(program, delete(alloc));
     let status = reading(
@@ -81,7 +76,7 @@ pub(crate) fn with_labels<'a>(
     with_command(program, Ok(labels))
 }
 
-/// The program with the commands that question a site for a reader.
+/// The program with the questions of a reader: `pick`, which needs no site, and those to a site.
 pub(crate) fn with_questions<'a>(
     alloc: Global,
     program: Command<'a>,
@@ -89,7 +84,8 @@ pub(crate) fn with_questions<'a>(
 ) -> Result<Command<'a>, AllocError>
     ensures { IfOk result (λ c. app_of c ≡ questions_app (app_of program.entry) schemes.entry) }
 {
-    let program = with_command(Ok(program), filter(alloc, schemes));
+    let program = with_command(Ok(program), pick(alloc, schemes));
+    let program = with_command(program, filter(alloc, schemes));
     let program = with_command(program, lookup(alloc, schemes));
     with_command(program, bundle(alloc, schemes))
 }
@@ -129,21 +125,6 @@ pub(crate) fn with_exchange<'a>(
     );
     let program = with_command(program, Ok(replay));
     with_command(program, explain(alloc, errors))
-}
-
-/// `pick [--scheme SCHEME] [--lenient] [--widen] [--default LANG] [--all] RANGES TAG..`
-fn pick<'a>(alloc: Global, schemes: &'a [&'a str]) -> Result<Command<'a>, AllocError>
-    ensures { IfOk result (IsCommand (pick_app schemes.entry)) }
-{
-    let command = described(
-        alloc,
-        "pick",
-        "Prints the first language that fits the ranges, or the default, or nothing",
-        "Example: lexicat pick \"da, en-GB;q=0.8, en;q=0.7\" en fr",
-    );
-    arguments::with_preferences(alloc, command, schemes, "ranges", "RANGES")?
-        .arg(arguments::all(alloc))?
-        .arg(arguments::words(alloc, "tags", "TAG", "The languages to pick from"))
 }
 
 /// `new --site NAME`
@@ -266,6 +247,21 @@ fn outdated<'a>(alloc: Global) -> Result<Command<'a>, AllocError>
     )
     .arg(arguments::lang(alloc))?
     .arg(arguments::source(alloc))
+}
+
+/// `pick [--scheme SCHEME] [--lenient] [--widen] [--default LANG] [--all] RANGES TAG..`
+fn pick<'a>(alloc: Global, schemes: &'a [&'a str]) -> Result<Command<'a>, AllocError>
+    ensures { IfOk result (IsCommand (pick_app schemes.entry)) }
+{
+    let command = described(
+        alloc,
+        "pick",
+        "Prints the first language that fits the ranges, or the default, or nothing",
+        "Example: lexicat pick \"da, en-GB;q=0.8, en;q=0.7\" en fr",
+    );
+    arguments::with_preferences(alloc, command, schemes, "ranges", "RANGES")?
+        .arg(arguments::all(alloc))?
+        .arg(arguments::words(alloc, "tags", "TAG", "The languages to pick from"))
 }
 
 /// `filter --id ID [--offer FIELD] [--scheme SCHEME] [--lenient] FIELD`

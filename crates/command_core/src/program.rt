@@ -156,7 +156,7 @@ fn lexicat<'a>(
 ) -> Result<Command<'a>, AllocError>
     ensures { IfOk result (λ c. app_of c ≡ lexicat_app schemes.entry errors.entry) }
 {
-    let sites = with_sites(alloc, bare(alloc)?, schemes)?;
+    let sites = with_sites(alloc, bare(alloc)?)?;
     let labels = with_labels(alloc, sites)?;
     let questions = with_questions(alloc, labels, schemes)?;
     with_exchange(alloc, questions, errors)
@@ -175,6 +175,9 @@ fn bare<'a>(alloc: Global) -> Result<Command<'a>, AllocError>
             "lexicat reads standard input and writes standard output. 'lexicat help COMMAND' has \
                 an example of each command. The examples run one after another, in the order \
                 above.\n\
+                lexicat-file works on a file in place, and lexicat-edit opens its labels in your \
+                editor. lexicat-po, lexicat-convert and lexicat-check are for other formats, and \
+                lexicat-exchange is for a server.\n\
                 'lexicat explain N' says what causes an error 'refused N: TEXT', and what to do.",
         )
         .version(VERSION)

@@ -7,8 +7,7 @@ use Rattle.command_core.proofs.program.lexicat.Goals as goal
 pub returns : goal.returns
 returns c =
     let schemes = c.args.schemes in
-    let sites =
-    c.in_ok-sites.ensures ∙ ap (λ (it : App). sites_app it schemes) c.in_ok-bare.ensures in
+    let sites = c.in_ok-sites.ensures ∙ ap sites_app c.in_ok-bare.ensures in
     let labels = c.in_ok-labels.ensures ∙ ap labels_app sites in
     let questions =
     c.in_ok-questions.ensures ∙ ap (λ (it : App). questions_app it schemes) labels in
