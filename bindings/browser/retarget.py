@@ -1,7 +1,8 @@
 """Makes a module of LLVM, which the Rattle kit lowered for x86-64, one that clang compiles for
 WebAssembly.
 
-usage: retarget.py MODULE.ll OUT.ll
+usage: retarget.py [--plain] MODULE.ll OUT.ll
+           --plain: for a module without vectors
 
 Each step is named below. It stops where anything is left that is of x86, where the module calls a
 function that is not named here, and where it has assembly code.
@@ -26,6 +27,24 @@ define internal <16 x i8> @shuffled(<16 x i8> %bytes, <16 x i8> %indices) always
 declare <16 x i8> @llvm.wasm.swizzle(<16 x i8>, <16 x i8>)"""
 
 
+def plain_swizzle():
+    """What PSHUFB does, a byte after the other."""
+    lines = [
+        "define internal <16 x i8> @shuffled(<16 x i8> %bytes, <16 x i8> %indices) {",
+        "  %at = alloca <16 x i8>", "  store <16 x i8> %bytes, ptr %at"]
+    for it in range(16):
+        before = f"%result{it - 1}" if it else "zeroinitializer"
+        lines += [
+            f"  %index{it} = extractelement <16 x i8> %indices, i32 {it}",
+            f"  %low{it} = and i8 %index{it}, 15",
+            f"  %place{it} = getelementptr i8, ptr %at, i8 %low{it}",
+            f"  %byte{it} = load i8, ptr %place{it}",
+            f"  %is_zero{it} = icmp slt i8 %index{it}, 0",
+            f"  %given{it} = select i1 %is_zero{it}, i8 0, i8 %byte{it}",
+            f"  %result{it} = insertelement <16 x i8> {before}, i8 %given{it}, i32 {it}"]
+    return "\n".join([*lines, "  ret <16 x i8> %result15", "}"])
+
+
 def stop(what):
     sys.exit(f"retarget.py: {what}")
 
@@ -36,9 +55,10 @@ def without_processor(text):
     return re.sub(rf' "(?:{named})"="[^"]*"', "", text)
 
 
-def with_swizzle(text):
-    """Replaces the one instruction of x86 that the kit's libraries use by that of WebAssembly."""
-    text = re.sub(rf"^declare <16 x i8> @{re.escape(SHUFFLE)}\(.*$", SWIZZLE, text, flags=re.M)
+def with_swizzle(text, swizzle=SWIZZLE):
+    """Replaces the one instruction of x86 that the kit's libraries use by that of WebAssembly, or by
+    what does the same."""
+    text = re.sub(rf"^declare <16 x i8> @{re.escape(SHUFFLE)}\(.*$", swizzle, text, flags=re.M)
     return text.replace(f"@{SHUFFLE}", "@shuffled")
 
 
@@ -81,13 +101,19 @@ def check(text):
 
 
 def main(words):
+    is_plain = words[:1] == ["--plain"]
+    words = words[is_plain:]
     if len(words) != 2:
         sys.exit(__doc__)
     with open(words[0], encoding="utf-8") as file:
         text = file.read()
     # (clang gives it the layout of the target that it compiles for)
     text = re.sub(r"^target (?:datalayout|triple) = .*\n", "", text, flags=re.M)
-    text = with_whole_loads(with_whole_pairs(with_swizzle(without_processor(text))))
+    text = without_processor(text)
+    if is_plain:
+        text = with_swizzle(text, plain_swizzle())
+    else:
+        text = with_whole_loads(with_whole_pairs(with_swizzle(text)))
     check(text)
     with open(words[1], "w", encoding="utf-8") as file:
         file.write(text)
