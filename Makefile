@@ -11,7 +11,7 @@ SOURCES := crates.txt $(shell command -v find > /dev/null && find crates \
 	\( -name out -o -name '*_tests' -o -name 'example_*' \) -prune \
 	-o -type f \( -name '*.rt' -o -name '*.antt' \) -print)
 
-.PHONY: all help needs try try-session library browser demo test test-mutants plant \
+.PHONY: all help needs try try-session library browser portable demo test test-mutants plant \
 	bench bench-documents bench-front bench-beside install install-command install-library uninstall \
 	dist proofs audit clean
 
@@ -67,6 +67,11 @@ browser: build/browser/silkwaram.wasm
 build/browser/silkwaram.wasm: $(SOURCES) $(wildcard include/*) tools/browser tools/calls \
 		$(wildcard bindings/browser/*.* bindings/node/express.*)
 	RT='$(RT)' tools/browser
+
+#: make portable      the libraries for C and the command as C for any machine, in build/portable
+#:                    (docs/LIBRARY.md): a minute or two more than the library
+portable: library
+	RT='$(RT)' tools/portable
 
 #: make test          the whole gate, from nothing: 60 to 90 minutes on four processors, by how many
 #:                    mutants tools/mutants/verdicts lacks; twice that on two. What lacks a tool is
