@@ -2,7 +2,7 @@
 
 This is the call of PEP 517 that pip makes; there is no source package. The wheel has the modules as
 they are, with the page of the editor. With the setting `library`, the path of libsilkwaram.so, it has
-the library too, and bears the tag of the machines that this runs on; that wants `objdump` of binutils.
+the library too, and bears the tag of the machines that this runs on; that wants `readelf` of binutils.
 With the setting `command`, the path of libsilkwaram-command.so, the programs run without another
 library. With the setting `browser`, the folder that `make browser` builds, it has the module that the
 editor's page runs. With the setting `licences`, a file that `tools/third-party` prints, it has the
@@ -26,6 +26,8 @@ LICENCES = ["LICENSE-APACHE", "LICENSE-MIT"]
 # The libraries by the settings that name them.
 SONAMES = {"library": "libsilkwaram.so.0", "command": "libsilkwaram-command.so.0"}
 GLIBC = (2, 17)
+# The machines of a library, as readelf and a wheel name them.
+MACHINES = {"Advanced Micro Devices X86-64": "x86_64", "AArch64": "aarch64"}
 # What the editor's page is made of, and what of the module it runs.
 PAGE = (".html", ".css", ".js", ".mjs", ".svg")
 MODULE = ("silkwaram.mjs", "silkwaram.wasm")
@@ -100,23 +102,24 @@ def entry_points():
 def library_tag(path, soname):
     """The tag of the machines that a library runs on; a ValueError where it wants more of them."""
     said = subprocess.run(
-        ["objdump", "-p", path],
+        ["readelf", "-hdVW", path],
         check=True,
         stdout=subprocess.PIPE,
         universal_newlines=True,
         env={**os.environ, "LC_ALL": "C"},
     ).stdout
-    if "file format elf64-x86-64" not in said or f"SONAME               {soname}\n" not in said:
-        raise ValueError(f"{path} is not {soname} for x86-64")
-    others = set(re.findall(r"NEEDED +(\S+)", said)) - {"libc.so.6"}
+    machine = MACHINES.get(re.search(r"^ *Machine: +(.*)$", said, re.M)[1])
+    if not machine or f" soname: [{soname}]\n" not in said:
+        raise ValueError(f"{path} is not {soname} for x86-64 or arm64")
+    others = set(re.findall(r"\(NEEDED\) +Shared library: \[(.*)\]", said)) - {"libc.so.6"}
     if others:
         raise ValueError(f"{path} wants {', '.join(sorted(others))}, which not every machine has")
-    versions = said.partition("Version References:")[2]
-    for wanted in re.findall(r"^ +0x\w+ 0x\w+ \d+ (\S+)$", versions, re.M):
+    versions = said.partition("Version needs section")[2]
+    for wanted in re.findall(r"^ +0x\w+: +Name: (\S+)", versions, re.M):
         number = re.fullmatch(r"GLIBC_(\d+)\.(\d+)(?:\.\d+)?", wanted)
         if not number or (int(number[1]), int(number[2])) > GLIBC:
             raise ValueError(f"{path} wants {wanted}, and the tag says GLIBC_{GLIBC[0]}.{GLIBC[1]}")
-    return f"manylinux_{GLIBC[0]}_{GLIBC[1]}_x86_64"
+    return f"manylinux_{GLIBC[0]}_{GLIBC[1]}_{machine}"
 
 
 def record_line(path, content):
