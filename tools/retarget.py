@@ -14,10 +14,13 @@ import sys
 
 # What the module calls and does not define: the kit's heap, and the two that LLVM may call by name.
 CALLED = {"rattle_alloc", "rattle_realloc", "rattle_dealloc", "memcmp", "bcmp"}
-# What the command declares besides, which is no program in WebAssembly: its arguments and streams,
-# and two calls for the environment that nothing in it calls.
+# What the command declares besides, which is no program in WebAssembly: its arguments and streams;
+# and calls for the environment and for threads, which nothing in it calls (tools/arm64 sees it).
 DECLARED_BY_COMMAND = {"rattle_arg", "rattle_errno", "rattle_set_errno", "rattle_env",
-                       "rattle_env_at", "read", "write", "__sysv_signal"}
+                       "rattle_env_at", "read", "write", "__sysv_signal", "abort", "free", "malloc",
+                       "sched_yield", *("pthread_" + it for it in (
+                           "attr_destroy", "attr_init", "attr_setguardsize", "attr_setstacksize",
+                           "create", "detach", "join", "self"))}
 # Assembly code without text is for the compiler alone, and no instruction.
 BARRIER = re.compile(r'asm (?:sideeffect )?"", "[^"]*"')
 # The one instruction of x86 that the kit's libraries use, PSHUFB, takes the low four bits of an
@@ -56,8 +59,8 @@ def without_processor(text, target):
 
 
 def without_test(text):
-    """Leaves of the command's `main` what is for any processor: that a write to a closed pipe fails,
-    and the call of the program. Between them it would test whether the processor is x86-64-v2."""
+    """Leaves of the command's `main` what is for any processor: that a write to a closed pipe
+    fails, and the call of the program. Between them it would test for x86-64-v2."""
     found = re.search(r"^define i32 @main\(\).*?^}$", text, re.M | re.S)
     if not found:
         return text
