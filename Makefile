@@ -6,12 +6,14 @@
 SHELL := bash
 RT ?= rt
 PREFIX ?= /usr/local
+# (where that is which `make install` installs: build/arm64 for arm64)
+BUILT = build
 # (the tests and the examples are no part of the command)
 SOURCES := crates.txt $(shell command -v find > /dev/null && find crates \
 	\( -name out -o -name '*_tests' -o -name 'example_*' \) -prune \
 	-o -type f \( -name '*.rt' -o -name '*.antt' \) -print)
 
-.PHONY: all help needs try try-session library browser demo test test-mutants plant \
+.PHONY: all help needs try try-session library browser portable arm64 demo test test-mutants plant \
 	bench bench-documents bench-front bench-beside install install-command install-library uninstall \
 	dist proofs audit clean
 
@@ -65,8 +67,18 @@ build/lib/libsilkwaram.a: $(SOURCES) $(wildcard include/*) tools/library tools/c
 browser: build/browser/silkwaram.wasm
 
 build/browser/silkwaram.wasm: $(SOURCES) $(wildcard include/*) tools/browser tools/calls \
-		$(wildcard bindings/browser/*.* bindings/node/express.*)
+		tools/retarget.py $(wildcard bindings/browser/*.* bindings/node/express.*)
 	RT='$(RT)' tools/browser
+
+#: make portable      the libraries for C and the command as C for any machine, in build/portable
+#:                    (docs/LIBRARY.md): a minute or two more than the library
+portable: library
+	RT='$(RT)' tools/portable
+
+#: make arm64         the command and the libraries for arm64 Linux, in build/arm64, by Debian's
+#:                    gcc-aarch64-linux-gnu: a minute or two more than the library
+arm64:
+	RT='$(RT)' tools/arm64
 
 #: make test          the whole gate, from nothing: 60 to 90 minutes on four processors, by how many
 #:                    mutants tools/mutants/verdicts lacks; twice that on two. What lacks a tool is
@@ -132,7 +144,7 @@ install: install-command install-library
 
 install-command: build/lexicat
 	install -d "$(BIN)" "$(SHARE)/man/man1" "$(SHARE)/man/man5"
-	install -m 755 build/lexicat "$(BIN)/lexicat"
+	install -m 755 $(BUILT)/lexicat "$(BIN)/lexicat"
 	install -m 644 man/lexicat.1 "$(SHARE)/man/man1/lexicat.1"
 	install -m 644 man/lexicat-formats.5 "$(SHARE)/man/man5/lexicat-formats.5"
 	tools/completions "$(SHARE)"
@@ -153,8 +165,8 @@ install-command: build/lexicat
 install-library: library
 	install -d "$(LIB)/pkgconfig" "$(INCLUDE)"
 	install -m 644 include/silkwaram.h include/silkwaram_command.h "$(INCLUDE)"
-	install -m 644 build/lib/libsilkwaram.a build/lib/libsilkwaram-command.a "$(LIB)"
-	cp -P build/lib/libsilkwaram*.so* "$(LIB)"
+	install -m 644 $(BUILT)/lib/libsilkwaram.a $(BUILT)/lib/libsilkwaram-command.a "$(LIB)"
+	cp -P $(BUILT)/lib/libsilkwaram*.so* "$(LIB)"
 	tools/pkg-config-file '$(PREFIX)' '$(LIBDIR)' > "$(LIB)/pkgconfig/silkwaram.pc"
 	chmod 644 "$(LIB)"/libsilkwaram*.so.*.*.* "$(LIB)/pkgconfig/silkwaram.pc"
 

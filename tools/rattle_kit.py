@@ -3,6 +3,7 @@
 
 usage: tools/rattle_kit.py CRATE    prints the first line of the log of a crate's proof
 """
+import contextlib
 import functools
 import hashlib
 import importlib.machinery
@@ -12,6 +13,7 @@ import re
 import shutil
 import subprocess
 import sys
+import tempfile
 import threading
 from concurrent.futures import FIRST_COMPLETED, ThreadPoolExecutor, wait
 
@@ -158,18 +160,34 @@ def links_to(folder, to):
         os.symlink(f"{folder}/{name}", f"{to}/{name}")
 
 
-def archive_files(crate):
-    """Returns the paths of what is left of a static library: the archive, the module of LLVM that
-    clang made it of, from which tools/browser makes one of WebAssembly, and a sum of what both
-    were made of."""
-    names = f"lib{crate.name}.a", f"{crate.name}.bc", f"{crate.name}.made"
-    return [f"{crate.folder}/out/{it}" for it in names]
+def built_files(crate):
+    """Returns the paths of what is left of a program or a static library: itself, the module of
+    LLVM that clang made it of, from which tools/browser and tools/arm64 make others, and a sum of
+    what both were made of."""
+    names = f"lib{crate.name}.a" if crate.is_static else crate.name, f"{crate.name}.bc"
+    return [f"{crate.folder}/out/{it}" for it in (*names, f"{crate.name}.made")]
 
 
-def keep_archive(crate, module):
-    """Puts the module of LLVM beside the archive of a static library, and of what both were
-    made."""
-    _, kept, made = archive_files(crate)
+@contextlib.contextmanager
+def keeping_module(crate):
+    """Keeps the module of LLVM that clang is given where `rt` builds the crate meanwhile, and gives
+    the path of its file. (By its stamp `rt` would take a program that is there.)"""
+    kit, call = load_rt().KIT, crate.call
+    with contextlib.suppress(FileNotFoundError):
+        os.remove(f"{crate.folder}/out/{crate.name}.stamp")
+    with tempfile.TemporaryDirectory(prefix="module-") as room:
+        toolchain = toolchain_that_keeps(kit, f"{room}/module", room)
+        crate.call = lambda *words: call(
+            *(toolchain if it == f"{kit}/toolchain" else it for it in words)
+        )
+        yield f"{room}/module"
+        crate.call = call
+
+
+def keep_module(crate, module):
+    """Puts the module of LLVM beside a program or the archive of a static library, and of what both
+    were made."""
+    _, kept, made = built_files(crate)
     shutil.copyfile(module, kept)
     with open(made, "w", encoding="utf-8") as file:
         file.write(sum_made(crate))

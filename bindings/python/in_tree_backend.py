@@ -1,23 +1,35 @@
 """Builds the package with Python's standard library alone, so that an installation fetches nothing.
 
-This is the call of PEP 517 that pip makes; there is no source package. The wheel has the modules as
-they are, with the page of the editor. With the setting `library`, the path of libsilkwaram.so, it has
-the library too, and bears the tag of the machines that this runs on; that wants `objdump` of binutils.
-With the setting `command`, the path of libsilkwaram-command.so, the programs run without another
-library. With the setting `browser`, the folder that `make browser` builds, it has the module that the
-editor's page runs. With the setting `licences`, a file that `tools/third-party` prints, it has the
-licences of what is linked into the libraries:
+These are the calls of PEP 517 that pip makes. The wheel has the modules as they are, with the page of
+the editor. With the setting `library`, the path of libsilkwaram.so, it has the library too, and bears
+the tag of the library's machine; that wants `readelf` of binutils. With the setting `command`, the
+path of libsilkwaram-command.so, the programs run without another library. With the setting
+`browser`, the folder that `make browser` builds, it has the module that the editor's page runs. With
+the setting `licences`, a file that `tools/third-party` prints, it has the licences of what is linked
+into the libraries:
 
     pip wheel --config-settings library=$PWD/build/lib/libsilkwaram.so \\
         --config-settings command=$PWD/build/lib/libsilkwaram-command.so \\
         --config-settings browser=$PWD/build/browser ./bindings/python
+
+With the setting `portable`, the folder that `tools/portable` builds, both libraries are compiled for
+this machine, by the compiler that CC names, or by cc, gcc or clang, with -O1 and CFLAGS: a minute or
+two. The source package has that folder inside, so that it is the setting there. It is made with the
+settings `portable`, `browser` and `licences`.
 """
 import base64
+import gzip
 import hashlib
+import io
 import os
 import re
+import shlex
+import shutil
 import subprocess
 import sys
+import sysconfig
+import tarfile
+import tempfile
 import zipfile
 
 HERE = os.path.dirname(os.path.abspath(__file__))
@@ -25,7 +37,14 @@ NAME = "silkwaram"
 LICENCES = ["LICENSE-APACHE", "LICENSE-MIT"]
 # The libraries by the settings that name them.
 SONAMES = {"library": "libsilkwaram.so.0", "command": "libsilkwaram-command.so.0"}
+# The C of each.
+PORTABLE = {"library": "silkwaram.c", "command": "silkwaram_command.c"}
+COMPILERS = ("cc", "gcc", "clang")
+# What the source package has beside this file, by the settings that name it in the repository.
+BESIDE = {"portable": "portable", "browser": "browser", "licences": "THIRD-PARTY"}
 GLIBC = (2, 17)
+# The machines of a library, as readelf and a wheel name them.
+MACHINES = {"Advanced Micro Devices X86-64": "x86_64", "AArch64": "aarch64"}
 # What the editor's page is made of, and what of the module it runs.
 PAGE = (".html", ".css", ".js", ".mjs", ".svg")
 MODULE = ("silkwaram.mjs", "silkwaram.wasm")
@@ -55,9 +74,10 @@ def make_calls():
 
 def licences(settings):
     """The licence files at the top of the repository, if this is there, and that of what is linked."""
-    paths = {name: os.path.join(HERE, "../..", name) for name in LICENCES}
-    paths["THIRD-PARTY"] = settings.get("licences", "")
-    return {name: read(path) for name, path in paths.items() if os.path.isfile(path)}
+    folders = [os.path.join(HERE, it) for it in ("", "../..")]
+    paths = [(name, os.path.join(it, name)) for name in LICENCES for it in folders]
+    paths.append(("THIRD-PARTY", settings.get("licences", "")))
+    return {name: read(path) for name, path in paths if os.path.isfile(path)}
 
 
 def metadata(licence_names):
@@ -100,23 +120,80 @@ def entry_points():
 def library_tag(path, soname):
     """The tag of the machines that a library runs on; a ValueError where it wants more of them."""
     said = subprocess.run(
-        ["objdump", "-p", path],
+        ["readelf", "-hdVW", path],
         check=True,
         stdout=subprocess.PIPE,
         universal_newlines=True,
         env={**os.environ, "LC_ALL": "C"},
     ).stdout
-    if "file format elf64-x86-64" not in said or f"SONAME               {soname}\n" not in said:
-        raise ValueError(f"{path} is not {soname} for x86-64")
-    others = set(re.findall(r"NEEDED +(\S+)", said)) - {"libc.so.6"}
+    machine = MACHINES.get(re.search(r"^ *Machine: +(.*)$", said, re.M)[1])
+    if not machine or f" soname: [{soname}]\n" not in said:
+        raise ValueError(f"{path} is not {soname} for x86-64 or arm64")
+    others = set(re.findall(r"\(NEEDED\) +Shared library: \[(.*)\]", said)) - {"libc.so.6"}
     if others:
         raise ValueError(f"{path} wants {', '.join(sorted(others))}, which not every machine has")
-    versions = said.partition("Version References:")[2]
-    for wanted in re.findall(r"^ +0x\w+ 0x\w+ \d+ (\S+)$", versions, re.M):
+    versions = said.partition("Version needs section")[2]
+    for wanted in re.findall(r"^ +0x\w+: +Name: (\S+)", versions, re.M):
         number = re.fullmatch(r"GLIBC_(\d+)\.(\d+)(?:\.\d+)?", wanted)
         if not number or (int(number[1]), int(number[2])) > GLIBC:
             raise ValueError(f"{path} wants {wanted}, and the tag says GLIBC_{GLIBC[0]}.{GLIBC[1]}")
-    return f"manylinux_{GLIBC[0]}_{GLIBC[1]}_x86_64"
+    return f"manylinux_{GLIBC[0]}_{GLIBC[1]}_{machine}"
+
+
+def own_tag():
+    """The tag of this machine."""
+    return re.sub(r"\W", "_", sysconfig.get_platform())
+
+
+def compiled(folder):
+    """The libraries of the C in a folder, for this machine."""
+    named = os.environ.get("CC") or next(filter(shutil.which, COMPILERS), None)
+    if not named:
+        raise FileNotFoundError("there is no C compiler: install one, or name it by CC")
+    flags = ["-O1", *shlex.split(os.environ.get("CFLAGS", "")), "-shared", "-fPIC"]
+    words = [*shlex.split(named), *flags, *["-pthread"] * (os.name == "posix")]
+    with tempfile.TemporaryDirectory() as room:
+        made = {SONAMES[it]: os.path.join(room, SONAMES[it]) for it in PORTABLE}
+        sources = [os.path.join(folder, it) for it in PORTABLE.values()]
+        running = [
+            subprocess.Popen([*words, "-o", to, source])
+            for to, source in zip(made.values(), sources)
+        ]
+        if any([it.wait() for it in running]):
+            raise RuntimeError(f"{named} did not compile the library")
+        return {name: read(path) for name, path in made.items()}
+
+
+def found_beside(config_settings):
+    """The settings, with what the source package has beside this file."""
+    beside = {name: os.path.join(HERE, it) for name, it in BESIDE.items()}
+    here = {name: it for name, it in beside.items() if os.path.exists(it)}
+    return {**here, **(config_settings or {})}
+
+
+def build_sdist(sdist_directory, config_settings=None):
+    settings, root = found_beside(config_settings), f"{NAME}-{version()}"
+    lacking = [it for it in ("portable", "browser") if it not in settings]
+    if lacking:
+        raise FileNotFoundError(f"the source package wants the settings {' and '.join(lacking)}")
+    make_calls()
+    own = ["pyproject.toml", "in_tree_backend.py", "README.md"]
+    files = {it: read(it) for it in [*own, *(f"src/{NAME}/{it}" for it in modules())]}
+    portable, browser = settings["portable"], settings["browser"]
+    names = os.listdir(portable)
+    files.update({f"portable/{it}": read(os.path.join(portable, it)) for it in names})
+    files.update({f"browser/{it}": read(os.path.join(browser, it)) for it in MODULE})
+    found = licences(settings)
+    files.update({**found, "PKG-INFO": metadata(found)})
+    packed = io.BytesIO()
+    with tarfile.open(fileobj=packed, mode="w", format=tarfile.PAX_FORMAT) as archive:
+        for path, content in sorted(files.items()):
+            entry = tarfile.TarInfo(f"{root}/{path}")
+            entry.size, entry.mtime = len(content), 315532800
+            archive.addfile(entry, io.BytesIO(content))
+    with open(os.path.join(sdist_directory, f"{root}.tar.gz"), "wb") as it:
+        it.write(gzip.compress(packed.getvalue(), mtime=0))
+    return f"{root}.tar.gz"
 
 
 def record_line(path, content):
@@ -125,7 +202,7 @@ def record_line(path, content):
 
 
 def build_wheel(wheel_directory, config_settings=None, metadata_directory=None):
-    settings, info = config_settings or {}, f"{NAME}-{version()}.dist-info"
+    settings, info = found_beside(config_settings), f"{NAME}-{version()}.dist-info"
     make_calls()
     files = {f"{NAME}/{it}": read(f"src/{NAME}/{it}") for it in modules()}
     browser = settings.get("browser")
@@ -137,6 +214,10 @@ def build_wheel(wheel_directory, config_settings=None, metadata_directory=None):
         if library:
             machines = library_tag(library, soname)
             files[f"{NAME}/{soname}"] = read(library)
+    if "portable" in settings and machines == "any":
+        machines = own_tag()
+        made = compiled(settings["portable"])
+        files.update({f"{NAME}/{it}": content for it, content in made.items()})
     files[f"{info}/entry_points.txt"] = entry_points()
     found = licences(settings)
     files.update({f"{info}/licenses/{it}": content for it, content in found.items()})
@@ -147,10 +228,10 @@ def build_wheel(wheel_directory, config_settings=None, metadata_directory=None):
     ).encode()
     record = "".join(record_line(path, content) for path, content in files.items())
     files[f"{info}/RECORD"] = f"{record}{info}/RECORD,,\n".encode()
-    made = f"{NAME}-{version()}-py3-none-{machines}.whl"
-    with zipfile.ZipFile(os.path.join(wheel_directory, made), "w", zipfile.ZIP_DEFLATED) as wheel:
+    name = f"{NAME}-{version()}-py3-none-{machines}.whl"
+    with zipfile.ZipFile(os.path.join(wheel_directory, name), "w", zipfile.ZIP_DEFLATED) as wheel:
         for path, content in files.items():
             entry = zipfile.ZipInfo(path, EPOCH)
             entry.compress_type, entry.external_attr = zipfile.ZIP_DEFLATED, 0o644 << 16
             wheel.writestr(entry, content)
-    return made
+    return name

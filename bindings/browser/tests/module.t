@@ -34,8 +34,9 @@ computes() {
     "${CC:-cc}" -std=gnu11 -O2 "$own/int128.c" -o "$room/int128" && "$room/int128" "$SEED"
 }
 
-shuffles() { # the module that is made of shuffle.ll
-    tools/browser --of "$own/shuffle.ll" "$site/shuffle.wasm" shuffle
+shuffles() { # the modules that are made of shuffle.ll
+    tools/browser --of "$own/shuffle.ll" "$site/shuffle.wasm" shuffle &&
+        tools/browser --plain "$own/shuffle.ll" "$site/plain.wasm" shuffle
 }
 
 knows_wasm || skip_all "the kit's clang does not know WebAssembly"
@@ -51,5 +52,6 @@ else
 fi
 check 'the instruction of x86 is replaced' shuffles
 in_engines 'the shuffle' shuffle.mjs tryShuffle shuffle.wasm seed.json
+in_engines 'the shuffle without vectors' shuffle.mjs tryShuffle plain.wasm seed.json
 in_engines memory memory.mjs tryMemory silkwaram.wasm limited.wasm seed.json
 end

@@ -1,4 +1,4 @@
-; The one instruction of x86 that bindings/browser/retarget.py replaces, as a function: OUT gets the bytes of BYTES
+; The one instruction of x86 that tools/retarget.py replaces, as a function: OUT gets the bytes of BYTES
 ; that INDICES name.
 target datalayout = "e-m:e-p270:32:32-p271:32:32-p272:64:64-i64:64-i128:128-f80:128-n8:16:32:64-S128"
 target triple = "x86_64-unknown-linux-gnu"

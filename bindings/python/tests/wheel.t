@@ -4,12 +4,12 @@
 # the command, PO files, a check, JSON, and the editor's server between them.
 #
 # Takes build/lib, as `make library` builds it, and build/browser, as `make browser` does. Needed:
-# Python with venv and pip, which may fetch nothing, objdump, and the Rattle kit.
+# Python with venv and pip, which may fetch nothing, readelf, and the Rattle kit.
 cd "$(dirname "$0")/../../.." || exit 1
 . tests/lib/tap.sh
 version=$(sed -nE 's/^__version__ = "(.*)"$/\1/p' bindings/python/src/silkwaram/__init__.py)
 needs build/lib/libsilkwaram.so build/lib/libsilkwaram-command.so build/browser/silkwaram.wasm \
-    python3 objdump "${RT:-rt}"
+    python3 readelf "${RT:-rt}"
 python3 -m venv "$room/venv" > "$room/made" 2>&1 || skip_all 'there is no venv of Python'
 mkdir "$room/wheel" "$room/day"
 top=$PWD

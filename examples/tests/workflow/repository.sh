@@ -23,7 +23,7 @@ packaged() {
         install -d "$room/staged/usr/share/silkwaram" &&
         cp -R bindings/python/src/silkwaram "$room/staged/usr/share/silkwaram" &&
         install -d "$room/staged/DEBIAN" &&
-        sed -e 's/@VERSION@/0-1/; s/@MAINTAINER@/nobody <>/; s/@SIZE@/1/; s/@LIBC@/2.34/' \
+        sed -e 's/@VERSION@/0-1/; s/@MAINTAINER@/nobody <>/; s/@SIZE@/1/; s/@LIBC@/2.34/; s/@ARCH@/amd64/' \
             packaging/control > "$room/staged/DEBIAN/control" &&
         dpkg-deb --root-owner-group --build "$room/staged" "$package"
 }
