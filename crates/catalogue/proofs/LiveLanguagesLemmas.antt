@@ -13,7 +13,7 @@ use Rattle.lang_core.specs.Text.{pieces}
 use Rattle.nego_core.specs.Choosing.{IsChosen, HasOpenDefault}
 use Rattle.list_core.specs.Item.{Item}
 use Rattle.nego_core.specs.LangSet.{is_among}
-use Rattle.nego_core.specs.WidenedChoice.{IsChosenWidened, IsMatchedAt, MatchEarliest}
+use Rattle.nego_core.specs.WidenedChoice.{IsChosenWidened, IsTriedAt, MatchEarliest}
 use Rattle.nego_core.specs.declared.choosing.Choice.{Choice}
 use Rattle.nego_core.specs.declared.choosing.Choice.TheVariants as choice
 use Rattle.list_core.specs.declared.scheme.Scheme.{Scheme}
@@ -142,7 +142,7 @@ IsEarliestBefore scheme items offer all left earliest =
 pub none_before : (scheme : Scheme) (items offer : List Item) (all : Labelled)
     → IsEarliestBefore scheme items offer all all None
 none_before scheme items offer all =
-    ([], refl, All-nil (λ l. (n : ℕ) → ¬ IsMatchedAt scheme items l n))
+    ([], refl, All-nil (λ l. (n : ℕ) → ¬ IsTriedAt scheme items l n))
 
 -- the next label may be earlier, if it is offered
 pub next_before : (scheme : Scheme) (items offer : List Item) (all left : Labelled)

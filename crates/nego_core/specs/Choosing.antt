@@ -1,4 +1,5 @@
 use Rattle.std.specs.Prelude.{ℕ, ◌≡◌, Bool, IsTrue, List, [], ◌∷◌, ◌++◌, Option, Some, None, All}
+use Rattle.std.specs.Prelude.{⊤}
 use Rattle.std.specs.List.{flat_map, slice_get}
 use Rattle.lang_core.specs.Text.{pieces, joined}
 use Rattle.lang_core.specs.Matching.{as_basic}
@@ -67,3 +68,10 @@ IsChosen items held default (Matched text) = IsLookedUp items held (Some (pieces
 IsChosen items held default Default = IsLookedUp items held None × HasOpenDefault items held default
 IsChosen items held default Nothing =
     IsLookedUp items held None × ¬ HasOpenDefault items held default
+
+-- the same choice: of one text, of the default, or of nothing
+abbrev pub AreSameChoice : Choice → Choice → Type 0
+AreSameChoice (Matched text) (Matched other) = text.now ≡ other.now
+AreSameChoice Default Default = ⊤
+AreSameChoice Nothing Nothing = ⊤
+AreSameChoice _ _ = ⊥
