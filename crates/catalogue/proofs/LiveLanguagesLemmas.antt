@@ -26,7 +26,7 @@ use Rattle.nego_core.specs.Shortlist.{IsChosenBy as IsChosenAmong, IsThere}
 use Rattle.catalogue.specs.declared.reply.Reply.{Reply}
 use Rattle.catalogue.specs.declared.reply.Reply.TheVariants.{Matched, Default, Nothing}
 use Rattle.catalogue.specs.Asking.{Finds, IsChosenIn, IsLookedUpIn}
-use Rattle.catalogue.specs.LiveReplies.{IsReplyTo}
+use Rattle.catalogue.specs.LiveReplies.{IsOfLabels, IsReplyTo}
 use Rattle.std.specs.Prelude.{filter}
 use Rattle.nego_core.specs.Offer.{is_offered}
 use Rattle.catalogue.specs.Live.{Labelled, languages, is_live}
@@ -128,6 +128,19 @@ replied widening labels items default choice.Default Nothing h r = absurd r
 replied widening labels items default choice.Nothing (Matched lang label) h r = absurd r
 replied widening labels items default choice.Nothing (Default lang label) h r = absurd r
 replied widening labels items default choice.Nothing Nothing h r = h
+
+-- The reply to a choice has one of the labels, or none.
+pub of_labels : (labels : Labelled) (default : Option (List ℕ)) (c : Choice) (reply : Reply)
+    → IsReplyTo labels default c reply → IsOfLabels labels reply
+of_labels labels default (choice.Matched text) (Matched lang label) r = r.1
+of_labels labels default (choice.Matched text) (Default lang label) r = absurd r
+of_labels labels default (choice.Matched text) Nothing r = absurd r
+of_labels labels default choice.Default (Matched lang label) r = absurd r
+of_labels labels default choice.Default (Default lang label) r = r.1
+of_labels labels default choice.Default Nothing r = absurd r
+of_labels labels default choice.Nothing (Matched lang label) r = absurd r
+of_labels labels default choice.Nothing (Default lang label) r = absurd r
+of_labels labels default choice.Nothing Nothing r = tt
 
 -- ---- the earliest that is matched
 
