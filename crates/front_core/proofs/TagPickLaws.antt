@@ -140,13 +140,15 @@ tags_refused tags langs fault h all =
     langs) h.whole all) in
     lang_refused h.word spelt.0 fault h.word_not spelt.1
 
-default_refused : (word : Option Text) (default : Option (List ℕ)) (fault : LangFault)
+-- so is a default that spells a language
+pub default_refused : (word : Option Text) (default : Option (List ℕ)) (fault : LangFault)
     → RefusesDefault word fault → IsDefault word default → fault ≡ lang.NoMemory
 default_refused None default fault h is = absurd h
 default_refused (Some w) None fault h is = absurd is
 default_refused (Some w) (Some x) fault h is = lang_refused w x fault h is
 
-tags_memory : (tags : List Text) (langs : List (List ℕ)) (fault : LangFault)
+-- tags that spell languages are refused for lack of memory alone
+pub tags_memory : (tags : List Text) (langs : List (List ℕ)) (fault : LangFault)
     → RefusesTags tags fault → SpellLangs tags langs → fault ≡ lang.NoMemory
 tags_memory tags langs lang.NoMemory h all = refl
 tags_memory tags langs lang.TagEmpty h all = tags_refused tags langs lang.TagEmpty h all
@@ -167,7 +169,8 @@ malformed_refused scheme Refused text offset list h f = malformed_is_no_field sc
     list h.1 f
 malformed_refused scheme PassedOver text offset list h f = absurd h
 
-field_memory : (field : FieldText) (list : List Item) (fault : NegoFault)
+-- so is a field that is read
+pub field_memory : (field : FieldText) (list : List Item) (fault : NegoFault)
     → RefusesRanges field fault → ReadsAs field list → fault ≡ nego.NoMemory
 field_memory field list nego.FieldTooLong h reads = let fits = reads.0 in
     let long : 65535 < length field.text = h in absurd (omega arith)

@@ -1,6 +1,6 @@
 -- The refusals of this crate: each is one of the crates below, and out of memory has one form
 -- (project rule).
-use Rattle.std.specs.Prelude.{◌≡◌, ◌^◌, ℕ, Option, None, Some, if◌then◌else◌, nat_lt}
+use Rattle.std.specs.Prelude.{◌≡◌, ◌≢◌, ◌^◌, ℕ, Option, None, Some, if◌then◌else◌, nat_lt}
 use Rattle.lang_core.specs.Fault.{number_of as lang_number, offset_of as lang_offset}
 use Rattle.lang_core.specs.declared.fault.LangFault.{LangFault}
 use Rattle.list_core.specs.Fault.{number_of as nego_number}
@@ -125,3 +125,9 @@ site_fault fault = document_fault (doc.of_no_document (doc.of_site fault))
 -- it is a refusal of the crate below, in the form that it has here
 abbrev pub IsOf : {F : Type 0} → (F → FrontFault) → (F → Type 0) → FrontFault → Type 0
 IsOf {F} form Refuses fault = (refused : F) × Refuses refused × (fault ≡ form refused)
+
+-- nothing is both answered and refused, and it is refused by one fault, lack of memory apart, by
+-- which each call may end
+pub record IsDecided (Answers : Type 0) (Refuses : FrontFault → Type 0) : Type 0 where
+  pub apart : (fault : FrontFault) → fault ≢ NoMemory → Answers → ¬ Refuses fault
+  pub one : (x y : FrontFault) → x ≢ NoMemory → y ≢ NoMemory → Refuses x → Refuses y → x ≡ y
