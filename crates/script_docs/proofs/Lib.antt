@@ -1,3 +1,4 @@
+pub mod CutStepsLemmas
 pub mod FieldWritingLemmas
 pub mod ReadingOneScript
 pub mod ScriptsMigrationLemmas
