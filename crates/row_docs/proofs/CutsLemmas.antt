@@ -5,7 +5,7 @@ use Rattle.std.specs.Prelude.{Option, None, Some, is_some, if◌then◌else◌, 
 use Rattle.std.specs.Prelude.{option_and_then}
 use Rattle.std.proofs.lemmas.Bool.Decides.{nat_tests}
 use Rattle.serde_json.specs.Data.{Data, Items, Members, null, boolean, number, string, array}
-use Rattle.serde_json.specs.Data.{object, item, no_items}
+use Rattle.serde_json.specs.Data.{object}
 use Rattle.serde_json.specs.Find.{as_str}
 use Rattle.serde_json.specs.View.{items_of}
 use Rattle.lang_core.proofs.Basics.{and_true}
@@ -23,11 +23,6 @@ at_most m n h = grind (arith, nat_tests)
 pub list_of-items_of : (ds : List Data) → list_of (items_of ds) ≡ ds
 list_of-items_of [] = refl
 list_of-items_of (d ∷ ds) = ap (λ t. d ∷ t) (list_of-items_of ds)
-
--- the array of an array's items is the array
-pub items_of-list_of : (ds : Items) → items_of (list_of ds) ≡ ds
-items_of-list_of no_items = refl
-items_of-list_of (item d ds) = ap (item d) (items_of-list_of ds)
 
 -- ---- what says the same of all arrays and objects as of `false`
 

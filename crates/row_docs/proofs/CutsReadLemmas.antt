@@ -199,10 +199,6 @@ still_many m n h le =
     let below = lt_is n 7 less in
     true≢false (sym (is_lt m 7 (omega (arith, below, le))) ∙ h))
 
--- nothing is kept of an array that nests too deep
-pub KeepsNone-zero : (front : List Data) → KeepsNone zero front
-KeepsNone-zero front = λ rest ds is. (refl, refl)
-
 -- nothing is kept of an array that begins with items that no row may have
 pub KeepsNone-misfit : (levels : ℕ) (front : List Data) → fits front ≡ false
     → KeepsNone (suc levels) front
@@ -428,28 +424,6 @@ module _ (kept : Kept) where
   kept_some levels front d next last is keeps cut more =
       more_by_levels levels front d next last
       (subst (λ b. KeepsBy b levels front kept) is keeps) cut more
-
-  first_by_levels : (levels : ℕ) (b : Bool) → b ≡ nat_lt 0 levels → kept.first.items ≡ []
-      → kept.count ≡ 0 → kept.are_texts ≡ true → kept.texts ≡ 0 → KeepsBy b levels [] kept
-  first_by_levels zero false is none zeros all last = KeepsNone-zero []
-  first_by_levels zero true is none zeros all last = absurd (cc)
-  first_by_levels (suc levels) false is none zeros all last =
-      let some : nat_lt 0 (suc levels) ≡ true = is_lt 0 (suc levels) (omega arith) in
-      absurd (true≢false (sym some ∙ sym is))
-  first_by_levels (suc levels) true is none zeros all last = record {
-    read = subst AreRead (sym none) tt;
-    first = ap (map seen) none;
-    count = zeros;
-    are_texts = all;
-    texts = last;
-    fits = refl;
-  }
-
-  -- of no item none is kept
-  pub kept_first : (levels : ℕ) → kept.fits ≡ nat_lt 0 levels → kept.first.items ≡ []
-      → kept.count ≡ 0 → kept.are_texts ≡ true → kept.texts ≡ 0 → Keeps levels [] kept
-  kept_first levels is none zeros all last =
-      first_by_levels levels kept.fits is none zeros all last
 
 -- ---- which token it is
 

@@ -17,6 +17,7 @@ returns-then-not-has_room c = (
       (sym c.if-not-has_room.ensures)),
 )
 
+-- One item more is kept: all are texts where the others are and it is one.
 pub returns-after-kept : goal.returns-after-kept
 returns-after-kept c =
     let is_text = c.is_some-is_text.result in
