@@ -74,8 +74,8 @@ abbrev pick_asked : Bool → PickWords → Option TaskWords
 pick_asked false words = Some (Pick words)
 pick_asked true words = option_map PickAll (pick_all_words words)
 
--- all tags that fit where `--all` is given, which goes with no default and no widening; else the
--- one that fits best
+-- all tags that fit where `--all` is given, which goes with no default, no widening and no table of
+-- fallbacks; else the one that fits best
 abbrev pub pick_task : List Row → Option TaskWords
 pick_task rows =
     option_and_then (pick_asked (is_given (first_of (codes "all") rows))) (pick_words rows)

@@ -30,9 +30,10 @@ number_of (Field fault) = nego_number fault
 number_of (Document fault) = doc.number_of fault.cause
 number_of NoMemory = 26
 
--- where in a field the element begins that is refused
+-- where in a field or a table the element begins that is refused
 abbrev pub nego_offset : NegoFault → Option ℕ
 nego_offset (nego.FieldMalformed offset) = Some offset
+nego_offset (nego.FallbackMalformed offset) = Some offset
 nego_offset _ = None
 
 -- the place in the text of a row's field

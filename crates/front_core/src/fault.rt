@@ -184,12 +184,14 @@ impl<T: Drop> From<AllocFailed<T>> for FrontFault {
     }
 }
 
-/// The offset of a fault of a field.
+/// The offset of a fault of a field, or of a table of fallbacks.
 fn nego_offset(fault: NegoFault) -> Option<usize>
     ensures { result ≡ nego_offset fault }
 {
     match fault {
-        NegoFault::FieldMalformed { offset } => Some(offset),
+        NegoFault::FieldMalformed { offset } | NegoFault::FallbackMalformed { offset } => {
+            Some(offset)
+        }
         _ => None,
     }
 }

@@ -42,7 +42,8 @@ use Rattle.nego_core.proofs.WideningLemmas.{least_first, less_lt, looked_up as l
 use Rattle.nego_core.specs.Filtering.{texts_of}
 use Rattle.list_core.specs.Item.{Item}
 use Rattle.nego_core.specs.LangSet.{is_among}
-use Rattle.nego_core.specs.Choosing.{MatchFirstOf, all_candidates, candidates_of}
+use Rattle.nego_core.specs.Choosing.{MatchFirstOf, all_candidates}
+use Rattle.list_core.specs.Candidates.{candidates_of}
 use Rattle.list_core.specs.Deciding.{NamedRefuse}
 use Rattle.list_core.specs.FirstTried.{item_tried}
 use Rattle.list_core.specs.LookupOrder.{AreOrderKeys}

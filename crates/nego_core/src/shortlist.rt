@@ -141,7 +141,7 @@ fn rank<'a>(
     for (at, key) in keys.iter().enumerate() {
         match items.get(key.place) {
             Some(item) => {
-                for text in item.range().truncations() {
+                for text in item.candidates() {
                     if is_open(list, &left, text) {
                         match left.take(text) {
                             Some(lang) => ranked.push(lang)?,
