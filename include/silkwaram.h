@@ -346,9 +346,9 @@ int32_t sw_refusal(uint32_t number, uint8_t *out, size_t out_len, sw_told *told)
 /* The word of a refusal, as `clock-ahead`, of at most 32 bytes. Statuses as of sw_refusal. */
 int32_t sw_refusal_code(uint32_t number, uint8_t *out, size_t out_len, sw_told *told); /* since 0.4 */
 
-/* What the command prints of a refusal after `refused N: `, of at most 255 bytes, with OFFSET, INDEX, COUNT and PLACE
- * where told->offset and told->count of the refused call belong: `subtag at OFFSET`. Of 13 it lacks the stamp, and of
- * 15 the name of the site, which no call reports. Statuses as of sw_refusal. */
+/* The text of a refusal, of at most 255 bytes, with OFFSET, INDEX, COUNT and PLACE where told->offset and told->count
+ * of the refused call belong: `subtag at OFFSET`. Of 13 it lacks the stamp, and of 15 the name of the site, which no
+ * call reports. The command prints it after `refused N: ` (tried, not proved). Statuses as of sw_refusal. */
 int32_t sw_refusal_text(uint32_t number, uint8_t *out, size_t out_len, sw_told *told); /* since 0.4 */
 
 /* ---- Handles. */

@@ -89,6 +89,44 @@ def texts(*given):
     return json.dumps(given)
 
 
+class Kind:
+    """A kind of row: its members, and the command that reads a document of such rows."""
+
+    def __init__(self, name, version):
+        self.name, self.version = name, version
+        self.at = '"a"' if version == "2" else "7"
+        self.document = 1 if name in ("site", "edit") else 2
+        self.site_kind = {"text"} if version == "2" else {"number"}
+        self.kinds = [{"text"}, {"text"}, {"number"}, self.site_kind, {"number"}]
+        if name != "summary":
+            self.kinds.append({"null", "texts"})
+
+    def row(self, id="m"):
+        members = [json.dumps(id), '"en"', "5", self.at, "0"]
+        return members if self.name == "summary" else [*members, '["x"]']
+
+    def joined(self, members):
+        row = f"[{','.join(members)}]"
+        return f'["edit",0,{row}]' if self.name == "edit" else row
+
+    def given(self, rows):
+        end = f'"version":{self.version}}}'
+        if self.name == "site":
+            return ["status"], site(",".join(rows), self.at, self.version)
+        if self.name == "edit":
+            return ["replay"], f'{{"kind":"script","sites":1,"steps":[{",".join(rows)}],{end}'
+        first = site(name=self.at, version=self.version)
+        if self.name == "delta":
+            two = f'{{"cells":[{",".join(rows)}],"kind":"delta","to":{self.at},{end}'
+            return ["take"], f"{first}\n{two}"
+        two = f'{{"kind":"summary","owner":{self.at},"stamps":[{",".join(rows)}],{end}'
+        return ["delta"], f"{first}\n{two}"
+
+
+def each_kind(*names):
+    return [Kind(name, version) for name in names for version in ("1", "2")]
+
+
 def run(*groups):
     """Hands over the documents of some functions, each of which is a test."""
     tap.needs(LEXICAT)

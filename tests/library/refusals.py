@@ -23,8 +23,8 @@ from silkwaram._library import NOTHING, answered, library  # noqa: E402
 # The number, the word and the text at the head of a section.
 SECTION = r"^### (\d+), .*\n\n`([^`]+)`: `([^`]+)`"
 PAGE = os.path.join(os.path.dirname(os.path.realpath(__file__)), "../../docs/REFUSALS.md")
-NUMBERS = range(1, 31)
-NO_NUMBERS = (0, 31, 32, 256, 256 + 3, 2**31, 2**32 - 1)
+NUMBERS = range(1, 32)
+NO_NUMBERS = (0, 32, 33, 256, 256 + 3, 2**31, 2**32 - 1)
 # What the call says in place of the rule, where the shape of a document is refused.
 WANTED = {
     "open": "a site document is wanted",

@@ -7,7 +7,7 @@ crates/front_core/src/refusal.rt has for the library, which is that of the page,
 page names under "The library"; the word, what is wanted, the cause and what to do as that file has
 them, with which the lines of a section have to begin; and the items of DIAGNOSTICS in
 man/lexicat.1, each of which is a number, a word, a text, what is wanted and what to do. The numbers
-are 1 to 30, each once. It reads files, and needs Python alone.
+are 1 to 31, each once. It reads files, and needs Python alone.
 """
 import os
 import re
@@ -25,7 +25,7 @@ EXPLAINED = "crates/front_core/src/refusal.rt"
 PARTS = ("the word", "what is wanted", "cause", "what to do")
 SECTION = re.compile(r"^### (\d+), .+\n\n`([a-z0-9-]+)`: (.+)\n\n- \*\*Rule:\*\* (.+)\n- \*\*Cause:\*\* (.+)\n"
                      r"- \*\*What to do:\*\* (.+)$", re.M)
-ALL = set(range(1, 31))
+ALL = set(range(1, 32))
 ERROR = re.compile(r'#\[error\("([^"]*)"(?:, (.*))?\)\]')
 faults = []
 fault = faults.append

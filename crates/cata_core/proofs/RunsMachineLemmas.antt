@@ -4,13 +4,14 @@ use Rattle.std.proofs.Common.{ap, subst, arith}
 use Rattle.std.specs.Prelude.{⊤}
 use Rattle.cata_core.specs.declared.step.Step.{Step}
 use Rattle.cata_core.specs.declared.play_fault.PlayFault.{PlayFault}
-use Rattle.cata_core.specs.declared.play_fault.PlayFault.TheVariants.{NoMemory}
+use Rattle.cata_core.specs.declared.play_fault.PlayFault.TheVariants.{NoMemory, NoSuchPost}
+use Rattle.cata_core.specs.declared.play_fault.PlayFault.TheVariants.{NoSuchSite, StampReused}
 use Rattle.cata_core.specs.declared.answer.Answer.{Answer}
 use Rattle.catalogue.specs.Edits.{catalogue_of}
 use Rattle.cata_core.specs.RunsTaken.{Taken, taken_step, taken_after, nothing_taken, taken}
 use Rattle.cata_core.specs.WorldHeld.{Held, held_step, held_after, nothing_held, held}
 use Rattle.cata_core.specs.Answer.{IsAnswered, AreAnswersBy, AreHeldAnswers, AreAnswers}
-use Rattle.cata_core.specs.PlayFault.{IsSound, IsFaultOf, NoneFaulty, IsFirstFault}
+use Rattle.cata_core.specs.PlayFault.{IsSound, IsFaultOf, NoneFaulty, IsFirstFault, RefusesStep}
 
 -- no step is faulty, from a state on
 abbrev pub AllSound : ℕ → Held → List Step → Type 0
@@ -21,7 +22,7 @@ AllSound sites w (step ∷ steps) = IsSound sites w step × AllSound sites (held
 abbrev pub FaultFrom : ℕ → Held → ℕ → List Step → PlayFault → Type 0
 FaultFrom sites w n [] fault = fault ≡ NoMemory
 FaultFrom sites w n (step ∷ steps) fault =
-    IsFaultOf sites w n step fault
+    RefusesStep sites w n step fault
     ⊎ (IsSound sites w step × FaultFrom sites (held_step w step) (n + 1) steps fault)
 
 -- the answers by what is held, from a state on
@@ -133,21 +134,33 @@ record FirstFrom (sites : ℕ) (w : Held) (n : ℕ) (steps : List Step) (fault :
     sound : AllSound sites w before
     fault_of : IsFaultOf sites (held_after w before) (n + length before) step fault
 
+-- what refuses a step is out of memory, or why it is faulty
+memory_or_faulty : (sites : ℕ) (w : Held) (n : ℕ) (step : Step) (fault : PlayFault)
+    → RefusesStep sites w n step fault → (fault ≡ NoMemory) ⊎ IsFaultOf sites w n step fault
+memory_or_faulty sites w n step (NoSuchSite at) h = inr h
+memory_or_faulty sites w n step (NoSuchPost at) h = inr h
+memory_or_faulty sites w n step (StampReused at place stamp) h = inr h
+memory_or_faulty sites w n step NoMemory h = inl refl
+
 first_from : (sites : ℕ) (w : Held) (n : ℕ) (steps : List Step) (fault : PlayFault)
     → FaultFrom sites w n steps fault → (fault ≡ NoMemory) ⊎ FirstFrom sites w n steps fault
 first_from sites w n [] fault h = inl h
 first_from sites w n (step ∷ steps) fault h =
     elim h as (λ _. (fault ≡ NoMemory) ⊎ FirstFrom sites w n (step ∷ steps) fault) [
       | inl now ↦ let same : n ≡ n + 0 = omega arith in
-          inr (record {
-            before = [];
-            step = step;
-            after = steps;
-            steps_are = refl;
-            sound =
-                tt;
-            fault_of = subst (λ m. IsFaultOf sites w m step fault) same now;
-          })
+          elim (memory_or_faulty sites w n step fault now) as
+          (λ _. (fault ≡ NoMemory) ⊎ FirstFrom sites w n (step ∷ steps) fault) [
+            | inl memory ↦ inl memory
+            | inr faulty ↦ inr (record {
+              before = [];
+              step = step;
+              after = steps;
+              steps_are = refl;
+              sound =
+                  tt;
+              fault_of = subst (λ m. IsFaultOf sites w m step fault) same faulty;
+            })
+          ]
       | inr later ↦
           elim (first_from sites (held_step w step) (n + 1) steps fault later.1) as
           (λ _. (fault ≡ NoMemory) ⊎ FirstFrom sites w n (step ∷ steps) fault) [

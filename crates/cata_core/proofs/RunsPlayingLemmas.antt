@@ -10,7 +10,7 @@ use Rattle.catalogue.specs.Edits.{IsConsistent}
 use Rattle.cata_core.specs.RunsTaken.{edits_of}
 use Rattle.cata_core.specs.WorldHeld.{nothing_held}
 use Rattle.cata_core.specs.Answer.{AreHeldAnswers, AreAnswers}
-use Rattle.cata_core.specs.PlayFault.{IsSound, IsFaultOf, NoneFaulty, NoDelivers}
+use Rattle.cata_core.specs.PlayFault.{IsSound, RefusesStep, NoneFaulty, NoDelivers}
 use Rattle.cata_core.specs.World.{held_in, IsRunning, IsStepped}
 use Rattle.catalogue.proofs.Basics.{append_nil}
 use Rattle.cata_core.proofs.RunsMachineLemmas.{AllSound, FaultFrom, HeldAnswersFrom, held_answers}
@@ -71,12 +71,12 @@ module _ (sites : ℕ) (steps : List Step) (n : ℕ) (old : World) (step : Step)
 
     -- a fault of the step is one of the run
     pub refused_now : (fault : PlayFault)
-        → IsFaultOf (length old.sites.items) (held_in old) n step fault
+        → RefusesStep (length old.sites.items) (held_in old) n step fault
         → FaultFrom sites nothing_held 0 steps fault
     refused_now fault h =
         played.refused fault
         (subst (λ xs. FaultFrom sites (held_in old) n xs fault) (sym rest)
-        (inl (subst (λ m. IsFaultOf m (held_in old) n step fault) played.len h)))
+        (inl (subst (λ m. RefusesStep m (held_in old) n step fault) played.len h)))
 
 -- after all steps
 module _ (sites : ℕ) (steps : List Step) (n : ℕ) (world : World)

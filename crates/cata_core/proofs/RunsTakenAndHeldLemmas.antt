@@ -35,7 +35,7 @@ use Rattle.cata_core.specs.WorldHeld.{told_by, delta_to, cells_posted, held_step
 use Rattle.cata_core.specs.WorldHeld.{held_after, held}
 use Rattle.cata_core.specs.Answer.{IsAnswered, AreAnswers}
 use Rattle.catalogue.specs.Clash.{IsFirstClash}
-use Rattle.cata_core.specs.PlayFault.{IsFaultOf, IsNoClash}
+use Rattle.cata_core.specs.PlayFault.{RefusesStep, IsNoClash}
 use Rattle.catalogue.proofs.CatalogueMembersLemmas.{In, in_append_left, in_append_right}
 use Rattle.catalogue.proofs.CatalogueMembersLemmas.{in_append_cases}
 use Rattle.catalogue.proofs.CatalogueMembersLemmas.{Contains-from_in, in_filter}
@@ -371,7 +371,7 @@ module _ (all : List Entry) (consistent : IsConsistent all) where
 
   no_clash_now : (sites : ℕ) (v : Held) (w : Taken) → Goes v w → (n : ℕ) (step : Step)
       → ((f : Entry) → In (edits_by step) f → In all f) → (fault : PlayFault)
-      → IsFaultOf sites v n step fault → IsNoClash fault
+      → RefusesStep sites v n step fault → IsNoClash fault
   no_clash_now sites v w g n step in_es (NoSuchSite at) h = tt
   no_clash_now sites v w g n step in_es (NoSuchPost at) h = tt
   no_clash_now sites v w g n step in_es (StampReused at place stamp) h =

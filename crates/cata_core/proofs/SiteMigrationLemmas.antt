@@ -6,11 +6,10 @@ use Rattle.cell_core.specs.Cell.{AgreeCells, joined_cells, cell_laws}
 use Rattle.cell_core.specs.Keyed.{AgreeIfBoth}
 use Rattle.cell_core.specs.KeyedLaws.{at_of}
 use Rattle.cell_core.specs.CellMigration.{IsOldStamp, OldCell, AgreeOldCells, joined_old_cells}
-use Rattle.cell_core.specs.CellMigration.{migrated_cell, KeepsJoins}
+use Rattle.cell_core.specs.CellMigration.{migrated_cell}
 use Rattle.cell_core.proofs.CellMigrationLemmas.{keeps_cell_joins}
 use Rattle.cell_core.specs.Entry.{EntryKey, key_cmp, key_cmp_total, key_cmp_exact}
-use Rattle.catalogue.specs.Entries.{Agree, joined}
-use Rattle.cata_core.specs.SiteMigration.{OldEntries, IsOldMap, AgreeOld, joined_old}
+use Rattle.cata_core.specs.SiteMigration.{OldEntries, IsOldMap, AgreeOld, KeepsCatalogueJoins}
 use Rattle.cata_core.specs.SiteMigration.{migrated_entries}
 use Rattle.catalogue.proofs.ChangesMappedLemmas.{mapped-IsMap, mapped_joined, mapped_agree}
 
@@ -43,8 +42,7 @@ joins_old : (x y : OldCell) → HasOldStamp x → HasOldStamp y → AgreeOldCell
 joins_old x y p q = let kept = keeps_cell_joins x y p q in kept.joins
 
 -- Migrated catalogues agree exactly where the old ones do, and their join is the migrated join.
-pub keeps_catalogue_joins : (a b : OldEntries) → IsOldMap a → IsOldMap b
-    → KeepsJoins migrated_entries AgreeOld joined_old Agree joined a b
+pub keeps_catalogue_joins : (a b : OldEntries) → IsOldMap a → IsOldMap b → KeepsCatalogueJoins a b
 keeps_catalogue_joins a b m n =
     let both =
     mapped_agree key_cmp migrated_cell HasOldStamp AgreeOldCells AgreeCells agrees_old a b

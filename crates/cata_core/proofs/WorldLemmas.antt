@@ -24,7 +24,7 @@ use Rattle.catalogue.specs.Clash.{IsFirstClash}
 use Rattle.cata_core.specs.Delta.{summary_of, delta_of}
 use Rattle.cata_core.specs.WorldHeld.{ToldStamps, PostedCells, Held, joins, held_step, cells_in}
 use Rattle.cata_core.specs.WorldHeld.{cells_delivered, delta_to}
-use Rattle.cata_core.specs.PlayFault.{IsSound, AgreesWith, IsFaultOf}
+use Rattle.cata_core.specs.PlayFault.{IsSound, AgreesWith, RefusesStep}
 use Rattle.cata_core.specs.World.{at_sites, IsClashAt}
 use Rattle.catalogue.proofs.Basics.{append_nil}
 use Rattle.list_core.proofs.Basics.{stands_at as got}
@@ -179,11 +179,11 @@ module _ (sites : List Entries) (told : List ToldStamps) (posts : List PostedCel
 
   -- where the cells clash, the fault is the step's
   pub delivered_fault : (n at : ℕ) (fault : PlayFault) → IsClashAt at own p.cells fault
-      → IsFaultOf n world at step fault
-  delivered_fault n at fault h = subst (λ s. IsFaultOf n world at s fault) (sym is) (of fault h)
+      → RefusesStep n world at step fault
+  delivered_fault n at fault h = subst (λ s. RefusesStep n world at s fault) (sym is) (of fault h)
     where
       of : (fault : PlayFault) → IsClashAt at own p.cells fault
-          → IsFaultOf n world at (Deliver k) fault
+          → RefusesStep n world at (Deliver k) fault
       of (NoSuchSite s) h = absurd h
       of (NoSuchPost s) h = absurd h
       of (StampReused s place stamp) h = (

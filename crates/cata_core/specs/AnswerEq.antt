@@ -6,7 +6,7 @@ use Rattle.cata_core.specs.declared.answer.Answer.{Answer}
 use Rattle.cata_core.specs.contracts.answer.AnswerPartialEq.TheImpl as answer_impl
 use Rattle.cata_core.specs.contracts.answer.AnswerEq.TheImpl.Laws as answer_laws
 
--- what `==` says of two answers
+-- what `==` says of two answers, by what its derive states
 abbrev pub answer_eq : Answer → Answer → Bool
 answer_eq = (answer_impl.ghosts).eq
 

@@ -53,8 +53,7 @@ pub record IsSound (sites : ℕ) (w : Held) (step : Step) : Type 0 where
   pub posts_there : NamesPosts w step
   pub agrees : AgreesWith w.of_site (cells_in w step)
 
--- why the step with this number is faulty, the first reason that applies; out of memory may always
--- be
+-- why the step with this number is faulty, the first reason that applies
 abbrev pub IsFaultOf : ℕ → Held → ℕ → Step → PlayFault → Type 0
 IsFaultOf sites w n step (NoSuchSite at) = (at ≡ n) × ¬ (NamesSites sites step)
 IsFaultOf sites w n step (NoSuchPost at) =
@@ -64,7 +63,12 @@ IsFaultOf sites w n step (StampReused at place stamp) =
     × (NamesSites sites step
     × (NamesPosts w step
     × IsSomeAnd (cells_in w step) (λ c. IsFirstClash key_cmp (w.of_site c.0) c.1 place stamp)))
-IsFaultOf sites w n step NoMemory = ⊤
+IsFaultOf sites w n step NoMemory = ⊥
+
+-- a step is refused by why it is faulty; out of memory may always be
+abbrev pub RefusesStep : ℕ → Held → ℕ → Step → PlayFault → Type 0
+RefusesStep sites w n step NoMemory = ⊤
+RefusesStep sites w n step fault = IsFaultOf sites w n step fault
 
 -- no step is faulty
 abbrev pub NoneFaulty : ℕ → List Step → Type 0

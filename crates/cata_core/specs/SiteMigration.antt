@@ -8,7 +8,7 @@ use Rattle.cell_core.specs.CellMigration.{OldStamp, IsOldStamp, OldCell, AgreeOl
 use Rattle.cell_core.specs.CellMigration.{joined_old_cells, migrated_stamp, migrated_cell}
 use Rattle.cata_core.specs.declared.delta.Delta.{Delta}
 use Rattle.cell_core.specs.Entry.{EntryKey, key_cmp}
-use Rattle.catalogue.specs.Entries.{Entry, Entries}
+use Rattle.catalogue.specs.Entries.{Agree, Entry, Entries, joined}
 use Rattle.cata_core.specs.Delta.{Stamps}
 use Rattle.cata_core.specs.Site.{SiteState}
 use Rattle.cata_core.specs.Summary.{SummaryState}
@@ -41,6 +41,14 @@ migrated_entry e = (e.0, migrated_cell e.1)
 -- the same with the padded names of the sites
 abbrev pub migrated_entries : OldEntries → Entries
 migrated_entries es = map migrated_entry es
+
+-- two catalogues agree after the migration exactly where they did before, and then their join is
+-- the migrated join
+pub record KeepsCatalogueJoins (a b : OldEntries) : Type 0 where
+  pub agrees : AgreeOld a b → Agree (migrated_entries a) (migrated_entries b)
+  pub agreed : Agree (migrated_entries a) (migrated_entries b) → AgreeOld a b
+  pub joins : AgreeOld a b
+      → migrated_entries (joined_old a b) ≡ joined (migrated_entries a) (migrated_entries b)
 
 -- stamps of numbered sites by keys
 abbrev pub OldStamps : Type 0

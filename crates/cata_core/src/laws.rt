@@ -4,7 +4,9 @@ ghost use Rattle.std.specs.Prelude.{◌≡◌, ◌≢◌, ◌↔◌, ◌⊎◌, 
 ghost use Rattle.std.specs.Prelude.{Contains, Option, Some, None, length};
 ghost use Rattle.std.specs.FinMap.Entries.{find, put};
 ghost use Rattle.cell_core.specs.declared.cell.Cell.{Cell};
-ghost use Rattle.cell_core.specs.Stamp.{IsAbove};
+ghost use Rattle.std.specs.declared.cmp.Ordering.TheVariants.{Less};
+ghost use Rattle.cell_core.specs.declared.stamp.Stamp.{Stamp};
+ghost use Rattle.cell_core.specs.Stamp.{IsAbove, stamp_cmp};
 ghost use Rattle.cell_core.specs.Keyed.{IsMap, joined_if_both};
 ghost use Rattle.cell_core.specs.Cell.{joined_stamps};
 ghost use Rattle.cell_core.specs.Entry.{EntryKey, text_cmp, key_cmp};
@@ -32,9 +34,7 @@ ghost use Rattle.cata_core.specs.AnswerAlike.{AnswerAlike};
 ghost use Rattle.cata_core.specs.PlayFault.{IsNoDeliver, NoDelivers, NoneFaulty, Clashes};
 ghost use Rattle.cata_core.specs.PlayFault.{Unsettles};
 ghost use Rattle.cata_core.specs.RunsSpreads.{AllReached};
-ghost use Rattle.cell_core.specs.CellMigration.{KeepsJoins};
-ghost use Rattle.cata_core.specs.SiteMigration.{OldEntries, IsOldMap, AgreeOld, joined_old};
-ghost use Rattle.cata_core.specs.SiteMigration.{migrated_entries};
+ghost use Rattle.cata_core.specs.SiteMigration.{KeepsCatalogueJoins, IsOldMap, OldEntries};
 ghost use Rattle.catalogue.specs.Edits.{IsConsistent, IsBest, IsSettled, SameMembers, catalogue_of};
 
 pub use catalogue::laws::{
@@ -63,6 +63,14 @@ pub fn an_own_edit_is_joined()
         → IsSettled (edits ++ (key, cell) ∷ [])
         × (put key_cmp key cell (catalogue_of edits)
         ≡ catalogue_of (edits ++ (key, cell) ∷ [])) }
+{}
+
+/// A stamp is above the latest one of some cells exactly where it is above the stamp of each. So
+/// the stamp of an own edit, by `Site::put` or `Site::delete`, is the least of its site that is not
+/// before now and greater than those of all cells.
+pub fn above_the_latest_is_above_each()
+    ensures { (cells : Entries) (s : Stamp) → IsAbove (latest_of cells) s
+        ↔ ((e : Entry) → Contains cells e → stamp_cmp e.1.stamp s ≡ Less) }
 {}
 
 /// The latest stamp of a site's cells is the latest that was ever taken in, and that of a join the
@@ -238,11 +246,11 @@ pub fn deliveries_bring_what_was_taken()
         ≡ Some (t, taken (a ++ Tell t ∷ b) s) }
 {}
 
-/// Migration keeps the joins of catalogues: two agree after it where they did before, and their
-/// join is the migrated join.
+/// Migration keeps the joins of catalogues: two agree after it exactly where they did before, and
+/// then their join is the migrated join.
 pub fn migration_keeps_joins()
     ensures { (a b : OldEntries) → IsOldMap a → IsOldMap b
-        → KeepsJoins migrated_entries AgreeOld joined_old Agree joined a b }
+        → KeepsCatalogueJoins a b }
 {}
 
 /// The part of a delta is the delta of the part against the summary's part, and the summary of a

@@ -6,6 +6,7 @@
 -- with a stamp above all becomes the latest.
 use Rattle.std.proofs.Common.{◌≡◌, ◌≢◌, true, false, cond, [], ◌∷◌, Option, Some, None}
 use Rattle.std.proofs.Common.{inl, inr, refl, sym, ap, ◌∙◌, subst}
+use Rattle.std.specs.Prelude.{◌↔◌, Contains}
 use Rattle.std.specs.declared.cmp.Ordering.{Ordering}
 use Rattle.std.specs.declared.cmp.Ordering.TheVariants.{Less, Equal, Greater}
 use Rattle.std.specs.Ordering.{is_lt, eq_by_cmp, ordering_reverse}
@@ -95,6 +96,40 @@ held_less (e ∷ es) k c s h is =
           (above_first e.1.stamp (latest_of es) s h)
       | false ↦ λ is. held_less es k c s (above_second e.1.stamp (latest_of es) s h) is
     ] is
+
+less_with : (a : Stamp) (o : Option Stamp) (s : Stamp) → stamp_cmp a s ≡ Less → IsAbove o s
+    → IsAbove (joined_if_both joined_stamps (Some a) o) s
+less_with a None s less above = less
+less_with a (Some t) s less above =
+    elim (is_lt (stamp_cmp a t)) as (λ b. stamp_cmp (cond b t a) s ≡ Less) [
+      | true ↦ above
+      | false ↦ less
+    ]
+
+below_each : (es : Entries) (s : Stamp) → IsAbove (latest_of es) s → (e : Entry) → In es e
+    → stamp_cmp e.1.stamp s ≡ Less
+below_each [] s h e there = absurd there
+below_each (x ∷ es) s h e there = elim there as (λ _. stamp_cmp e.1.stamp s ≡ Less) [
+  | inl is ↦
+      subst (λ (y : Entry). stamp_cmp y.1.stamp s ≡ Less) is
+      (above_first x.1.stamp (latest_of es) s h)
+  | inr later ↦ below_each es s (above_second x.1.stamp (latest_of es) s h) e later
+]
+
+above_all : (es : Entries) (s : Stamp) → ((e : Entry) → In es e → stamp_cmp e.1.stamp s ≡ Less)
+    → IsAbove (latest_of es) s
+above_all [] s h = tt
+above_all (x ∷ es) s h =
+    less_with x.1.stamp (latest_of es) s (h x (inl refl))
+    (above_all es s (λ e there. h e (inr there)))
+
+-- A stamp is above the latest of some cells exactly where it is above that of each.
+pub above_each : (es : Entries) (s : Stamp) → IsAbove (latest_of es) s
+    ↔ ((e : Entry) → Contains es e → stamp_cmp e.1.stamp s ≡ Less)
+above_each es s = (
+  (λ h e there. below_each es s h e (in_from_Contains es e there)),
+  (λ h. above_all es s (λ e there. h e (Contains-from_in es e there))),
+)
 
 joined_above : (o : Option Stamp) (s : Stamp) → IsAbove o s
     → joined_if_both joined_stamps o (Some s) ≡ Some s

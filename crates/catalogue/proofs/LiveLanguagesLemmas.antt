@@ -13,7 +13,7 @@ use Rattle.lang_core.specs.Text.{pieces}
 use Rattle.nego_core.specs.Choosing.{IsChosen, HasOpenDefault}
 use Rattle.list_core.specs.Item.{Item}
 use Rattle.nego_core.specs.LangSet.{is_among}
-use Rattle.nego_core.specs.WidenedChoice.{IsChosenWidened, IsMatchedAt, MatchEarliest}
+use Rattle.nego_core.specs.WidenedChoice.{IsChosenWidened, IsTriedAt, MatchEarliest}
 use Rattle.nego_core.specs.declared.choosing.Choice.{Choice}
 use Rattle.nego_core.specs.declared.choosing.Choice.TheVariants as choice
 use Rattle.list_core.specs.declared.scheme.Scheme.{Scheme}
@@ -26,7 +26,7 @@ use Rattle.nego_core.specs.Shortlist.{IsChosenBy as IsChosenAmong, IsThere}
 use Rattle.catalogue.specs.declared.reply.Reply.{Reply}
 use Rattle.catalogue.specs.declared.reply.Reply.TheVariants.{Matched, Default, Nothing}
 use Rattle.catalogue.specs.Asking.{Finds, IsChosenIn, IsLookedUpIn}
-use Rattle.catalogue.specs.LiveReplies.{IsReplyTo}
+use Rattle.catalogue.specs.LiveReplies.{IsOfLabels, IsReplyTo}
 use Rattle.std.specs.Prelude.{filter}
 use Rattle.nego_core.specs.Offer.{is_offered}
 use Rattle.catalogue.specs.Live.{Labelled, languages, is_live}
@@ -129,6 +129,19 @@ replied widening labels items default choice.Nothing (Matched lang label) h r = 
 replied widening labels items default choice.Nothing (Default lang label) h r = absurd r
 replied widening labels items default choice.Nothing Nothing h r = h
 
+-- The reply to a choice has one of the labels, or none.
+pub of_labels : (labels : Labelled) (default : Option (List ℕ)) (c : Choice) (reply : Reply)
+    → IsReplyTo labels default c reply → IsOfLabels labels reply
+of_labels labels default (choice.Matched text) (Matched lang label) r = r.1
+of_labels labels default (choice.Matched text) (Default lang label) r = absurd r
+of_labels labels default (choice.Matched text) Nothing r = absurd r
+of_labels labels default choice.Default (Matched lang label) r = absurd r
+of_labels labels default choice.Default (Default lang label) r = r.1
+of_labels labels default choice.Default Nothing r = absurd r
+of_labels labels default choice.Nothing (Matched lang label) r = absurd r
+of_labels labels default choice.Nothing (Default lang label) r = absurd r
+of_labels labels default choice.Nothing Nothing r = tt
+
 -- ---- the earliest that is matched
 
 -- the earliest of the offered labels before those that are left
@@ -142,7 +155,7 @@ IsEarliestBefore scheme items offer all left earliest =
 pub none_before : (scheme : Scheme) (items offer : List Item) (all : Labelled)
     → IsEarliestBefore scheme items offer all all None
 none_before scheme items offer all =
-    ([], refl, All-nil (λ l. (n : ℕ) → ¬ IsMatchedAt scheme items l n))
+    ([], refl, All-nil (λ l. (n : ℕ) → ¬ IsTriedAt scheme items l n))
 
 -- the next label may be earlier, if it is offered
 pub next_before : (scheme : Scheme) (items offer : List Item) (all left : Labelled)

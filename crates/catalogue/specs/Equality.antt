@@ -10,7 +10,8 @@ use Rattle.cell_core.specs.contracts.cell.CellEq.TheImpl.Laws as cell_laws
 use Rattle.cell_core.specs.Entry.{key_cmp, key_cmp_total}
 use Rattle.catalogue.specs.Entries.{Entry, Entries}
 
--- what `==` says of two cells
+-- what `==` says of two cells, by what its derive states: that they are equal exactly where the
+-- cells are is in the law `changes_are_what_differs`, clause `differ`
 abbrev pub cell_eq : Cell → Cell → Bool
 cell_eq = (cell_impl.ghosts).eq
 

@@ -1,5 +1,5 @@
 -- A choice among the languages of live labels, with its label.
-use Rattle.std.specs.Prelude.{◌≡◌, ℕ, List, Option, Some}
+use Rattle.std.specs.Prelude.{◌≡◌, ℕ, List, Option, Some, ⊤}
 use Rattle.std.specs.FinMap.Entries.{find}
 use Rattle.nego_core.specs.declared.choosing.Choice.{Choice}
 use Rattle.nego_core.specs.declared.choosing.Choice.TheVariants as choice
@@ -7,6 +7,12 @@ use Rattle.catalogue.specs.declared.reply.Reply.{Reply}
 use Rattle.catalogue.specs.declared.reply.Reply.TheVariants.{Matched, Default, Nothing}
 use Rattle.cell_core.specs.Entry.{text_cmp}
 use Rattle.catalogue.specs.Live.{Labelled}
+
+-- the reply has a label of these, under its own language, or none
+abbrev pub IsOfLabels : Labelled → Reply → Type 0
+IsOfLabels labels (Matched lang label) = find text_cmp lang labels ≡ Some label
+IsOfLabels labels (Default lang label) = find text_cmp lang labels ≡ Some label
+IsOfLabels labels Nothing = ⊤
 
 -- the reply is the choice, with the label of its language
 abbrev pub IsReplyTo : Labelled → Option (List ℕ) → Choice → Reply → Type 0

@@ -208,7 +208,18 @@ impl Catalogue {
         }
     }
 
-    /// Joins the cells of the other catalogue, which agrees.
+    /// Whether the two agree: no key has two cells of one stamp and different labels. It takes no
+    /// memory.
+    pub fn agrees(&self, other: &Catalogue) -> bool
+        ensures { IsTrue result ↔ Agree self.now other.now }
+    {
+        self.map.agrees(other.map())
+    }
+
+    /// Joins the cells of the other catalogue, which has to agree ([`Catalogue::agrees`]).
+    ///
+    /// After a refusal, by lack of memory, each key has its old cell, or none as before, or that of
+    /// the join, so that a repeat gives the join.
     pub fn join(&mut self, alloc: Global, other: &Catalogue) -> Result<(), AllocError>
         requires { Agree self.old other.now }
         ensures ok { OnOk result (self.new ≡ joined self.old other.now) }

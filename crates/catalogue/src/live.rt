@@ -35,7 +35,7 @@ impl<'a, 'o> Live<'a, 'o> {
     ghost use Rattle.catalogue.specs.CatalogueFlat.{inner_of};
     ghost use Rattle.catalogue.specs.Reply.{reply_of};
     ghost use Rattle.catalogue.specs.LiveIn.{live_in};
-    ghost use Rattle.catalogue.specs.LiveReplies.{IsReplyTo};
+    ghost use Rattle.catalogue.specs.LiveReplies.{IsOfLabels, IsReplyTo};
     ghost use Rattle.nego_core.specs.Shortlist.{AreAmong, IsThere};
 
     /// The live labels of these cells that are offered.
@@ -69,15 +69,17 @@ impl<'a, 'o> Live<'a, 'o> {
         self.reply(self.choose(list, widening, default), default)
     }
 
-    /// The same by a shortlist, of languages that have all of the live labels.
+    /// The same by a shortlist, of languages that have all of the live labels. In any case the
+    /// reply has a live label of these, under its own language.
     pub(crate) fn look_up_within(
         &self,
         shortlist: &Shortlist<'_>,
         default: Option<&Lang>,
     ) -> LentReply<'a>
-        ensures { AreAmong (languages (live_in self.now)) shortlist.now.langs
+        ensures within { AreAmong (languages (live_in self.now)) shortlist.now.langs
             → IsLookedUpIn shortlist.now.widening (live_in self.now) shortlist.now.items
             (option_map (λ l. l.now) default.entry) (reply_of result) }
+        ensures there { IsOfLabels (live_in self.now) (reply_of result) }
     {
         self.reply(shortlist.choose(self, default), default)
     }

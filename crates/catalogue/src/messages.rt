@@ -34,6 +34,7 @@ impl<'a> Message<'a> {
     ghost use Rattle.std.specs.Option.{option_copied, option_map};
     ghost use Rattle.catalogue.specs.Asking.{IsLookedUpIn, IsLookedUpOf};
     ghost use Rattle.cell_core.specs.Entry.{text_cmp};
+    ghost use Rattle.catalogue.specs.LiveReplies.{IsOfLabels};
     ghost use Rattle.catalogue.specs.Reply.{reply_of};
     ghost use Rattle.catalogue.specs.Live.{languages};
     ghost use Rattle.catalogue.specs.Labels.{labels_left};
@@ -96,7 +97,9 @@ impl<'a> Message<'a> {
 
     /// What [`Message::lookup_by`] answers by the whole list without the labels that are not
     /// offered, where the shortlist ranks languages among which are all of its own. For all
-    /// messages of a catalogue these are its [`languages`](crate::Catalogue::languages).
+    /// messages of a catalogue these are its [`languages`](crate::Catalogue::languages). By any
+    /// other shortlist it answers a label of the message that is offered, under its own language,
+    /// or nothing.
     ///
     /// It takes no memory, and tries no more languages than are ranked.
     pub fn lookup_within(
@@ -105,9 +108,11 @@ impl<'a> Message<'a> {
         shortlist: &Shortlist<'_>,
         default: Option<&Lang>,
     ) -> LentReply<'a>
-        ensures { AreAmong (languages self.now.1) shortlist.now.langs
+        ensures within { AreAmong (languages self.now.1) shortlist.now.langs
             → IsLookedUpIn shortlist.now.widening (offered_labels (items_of offer.entry) self.now.1)
             shortlist.now.items (option_map (λ l. l.now) default.entry) (reply_of result) }
+        ensures there { IsOfLabels (offered_labels (items_of offer.entry) self.now.1)
+            (reply_of result) }
     {
         Live::new(Some(self.cells), offer).look_up_within(shortlist, default)
     }

@@ -3,7 +3,7 @@
 
 ghost use Rattle.std.specs.Prelude.{◌≡◌, ◌+◌, ◌-◌, ◌<◌, ◌≤◌, ◌∷◌, ◌++◌, [], IfOk, IfErr, OnOk};
 ghost use Rattle.std.specs.Prelude.{IsOk, IsSome, IsTrue, MatchOption, None, false, length};
-ghost use Rattle.std.specs.Prelude.{slice_get};
+ghost use Rattle.std.specs.Prelude.{slice_get, is_none};
 ghost use Rattle.std.specs.Option.{option_copied};
 ghost use Rattle.std.specs.FinMap.Entries.{find, put};
 ghost use Rattle.std.specs.Vec.{vec_len, vec_capacity};
@@ -309,6 +309,7 @@ fn put_in<K: Key, J: Drop>(
     ensures err { IfErr result
         (λ pair. (pair ≡ (key, value)) × (pairs.new.items ≡ pairs.old.items)) }
     ensures held { IsSome (find K.cmp key pairs.old.items) → IsOk result }
+    ensures new { IfOk result (λ new. new ≡ is_none (find K.cmp key pairs.old.items)) }
 {
     match bisect(pairs, &key) {
         Ok(at) => {

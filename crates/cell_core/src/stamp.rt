@@ -69,7 +69,8 @@ impl Stamp {
     }
 }
 
-/// Shows the time, the site's name and the count, with a blank between.
+/// Shows the time, the site's name and the count, with a blank between. What a width or a precision
+/// of its place does is not said.
 impl fmt::Display for Stamp {
     ghost output = { λ s. Some (decimal s.time ++ 32 ∷ s.site ++ 32 ∷ decimal s.count) };
 

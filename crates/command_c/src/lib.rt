@@ -15,6 +15,7 @@ ghost use Rattle.std.specs.Prelude.{map};
 ghost use Rattle.command_c.specs.Report.{ReportsCommand};
 
 mod answer;
+pub mod laws;
 mod memory;
 mod report;
 mod words;
@@ -33,7 +34,7 @@ pub use words::Word;
 ///
 /// A buffer that has no room for its text is left as it was; the reported length is that of the
 /// text, and the status is as with room. It is reported whether the command reads its input: where
-/// it does not, the answer is that of any input.
+/// it does not, the answer is that of any input ([`laws::an_unread_input_has_no_part`]).
 #[unsafe(no_mangle)]
 pub extern "C" fn sw_command(
     alloc: Global,

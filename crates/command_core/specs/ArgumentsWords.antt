@@ -55,6 +55,11 @@ default_rule =
 abbrev pub offer_rule : Rule
 offer_rule = record (new_rule (codes "offer")) { long = Some (codes "offer"); value_names = 1 }
 
+-- `--fallbacks TABLE`
+abbrev pub fallbacks_rule : Rule
+fallbacks_rule =
+    record (new_rule (codes "fallbacks")) { long = Some (codes "fallbacks"); value_names = 1 }
+
 -- a priority list of language ranges
 abbrev pub field_rule : Text → Rule
 field_rule name = record (new_rule name) { value_names = 1; required = true }
@@ -72,14 +77,16 @@ words_rule name =
           Some Append;
     }
 
--- what a reader prefers: `[--scheme SCHEME] [--lenient] [--widen] [--default LANG]` and the ranges,
--- by this name
+-- what a reader prefers: `[--scheme SCHEME] [--lenient] [--widen] [--fallbacks TABLE]
+-- [--default LANG]` and the ranges, by this name
 abbrev pub preferences_app : App → Schemes → Text → App
 preferences_app app schemes name =
-    with_rule (with_rule (with_rule (with_rule (with_rule app (scheme_rule schemes))
-    (flag_rule (codes "lenient"))) (flag_rule (codes "widen"))) default_rule) (field_rule name)
+    with_rule (with_rule (with_rule (with_rule (with_rule (with_rule app (scheme_rule schemes))
+    (flag_rule (codes "lenient"))) (flag_rule (codes "widen"))) fallbacks_rule) default_rule)
+    (field_rule name)
 
--- `pick [--scheme SCHEME] [--lenient] [--widen] [--default LANG] [--all] RANGES TAG..`
+-- `pick [--scheme SCHEME] [--lenient] [--widen] [--fallbacks TABLE] [--default LANG] [--all]
+-- RANGES TAG..`
 abbrev pub pick_app : Schemes → App
 pick_app schemes =
     with_rule (with_rule (preferences_app (new_app (codes "pick")) schemes (codes "ranges"))
@@ -171,13 +178,15 @@ filter_app schemes =
     (with_rule (with_rule (with_rule (with_rule (new_app (codes "filter")) id_rule) offer_rule)
     (scheme_rule schemes)) (flag_rule (codes "lenient"))) (field_rule (codes "field"))
 
--- `lookup --id ID [--offer FIELD] [--scheme SCHEME] [--lenient] [--widen] [--default LANG] FIELD`
+-- `lookup --id ID [--offer FIELD] [--scheme SCHEME] [--lenient] [--widen] [--fallbacks TABLE]
+-- [--default LANG] FIELD`
 abbrev pub lookup_app : Schemes → App
 lookup_app schemes =
     preferences_app (with_rule (with_rule (new_app (codes "lookup")) id_rule) offer_rule) schemes
     (codes "field")
 
--- `bundle [--offer FIELD] [--scheme SCHEME] [--lenient] [--widen] [--default LANG] FIELD`
+-- `bundle [--offer FIELD] [--scheme SCHEME] [--lenient] [--widen] [--fallbacks TABLE]
+-- [--default LANG] FIELD`
 abbrev pub bundle_app : Schemes → App
 bundle_app schemes =
     preferences_app (with_rule (new_app (codes "bundle")) offer_rule) schemes (codes "field")

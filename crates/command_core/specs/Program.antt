@@ -28,7 +28,7 @@ error_numerals =
     ∷ codes "9" ∷ codes "10" ∷ codes "11" ∷ codes "12" ∷ codes "13" ∷ codes "14" ∷ codes "15"
     ∷ codes "16" ∷ codes "17" ∷ codes "18" ∷ codes "19" ∷ codes "20" ∷ codes "21" ∷ codes "22"
     ∷ codes "23" ∷ codes "24" ∷ codes "25" ∷ codes "26" ∷ codes "27" ∷ codes "28" ∷ codes "29"
-    ∷ codes "30" ∷ []
+    ∷ codes "30" ∷ codes "31" ∷ []
 
 -- the names of refusals: their numbers, then their words
 abbrev pub error_names : List Text

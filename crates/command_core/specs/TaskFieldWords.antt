@@ -1,5 +1,5 @@
 -- How the words of a command say that a field is read, and what they prefer (project rules).
-use Rattle.std.specs.Prelude.{Bool, false, List, Option, None, Some, codes, option_map}
+use Rattle.std.specs.Prelude.{[], Bool, false, List, Option, None, Some, codes, option_map}
 use Rattle.std.specs.Prelude.{if◌then◌else◌}
 use Rattle.std.specs.Str.{bytes_eq}
 use Rattle.clap.specs.Words.{Row, Text, first_of}
@@ -32,6 +32,11 @@ malformed_of lenient = if lenient then PassedOver else Refused
 abbrev pub widening_of : Bool → Scheme → Widening
 widening_of widens scheme = if widens then By scheme else Off
 
+-- the table of fallbacks that is given; where there is none, one without bytes
+abbrev pub fallbacks_of : Option Text → Text
+fallbacks_of None = []
+fallbacks_of (Some table) = table
+
 -- the field of this argument, or none where it is missing
 abbrev pub field_of : Text → List Row → Option FieldText
 field_of id rows = option_map (λ text. record {
@@ -39,6 +44,7 @@ field_of id rows = option_map (λ text. record {
   malformed = malformed_of (is_given (first_of (codes "lenient") rows));
   widening = widening_of (is_given (first_of (codes "widen") rows))
       (scheme_of (first_of (codes "scheme") rows));
+  fallbacks = fallbacks_of (first_of (codes "fallbacks") rows);
   text = text;
 }) (first_of id rows)
 

@@ -1,5 +1,5 @@
 -- The tasks that `pick`, `filter`, `lookup`, `outdated` and `explain` are given (project rules).
-use Rattle.std.specs.Prelude.{◌&&◌, ℕ, Bool, List, None, Option, Some, codes, nat_lt}
+use Rattle.std.specs.Prelude.{◌&&◌, ◌∷◌, [], ℕ, Bool, List, None, Option, Some, codes, nat_lt}
 use Rattle.std.specs.Prelude.{option_and_then, option_map}
 use Rattle.clap.specs.Words.{Row, Text, all_of, first_of}
 use Rattle.front_core.specs.Offering.{Offers}
@@ -42,15 +42,18 @@ pick_words rows =
     (λ preferences. option_map (λ tags. record { preferences = preferences; tags = tags })
     (all_of (codes "tags") rows)) (preference_words (codes "ranges") rows)
 
--- the words where there is neither a widening nor a default, or none
-abbrev where_plain : Widening → Option Text → PickAllWords → Option PickAllWords
-where_plain Off None words = Some words
-where_plain Off (Some default) words = None
-where_plain (By scheme) default words = None
+-- the words where there is no widening, no table of fallbacks and no default, or none
+abbrev pub where_plain : Widening → Text → Option Text → PickAllWords → Option PickAllWords
+where_plain Off [] None words = Some words
+where_plain Off [] (Some default) words = None
+where_plain Off (byte ∷ table) default words = None
+where_plain (By scheme) table default words = None
 
--- all tags that fit; none where there is a widening or a default, which do not go with that
+-- all tags that fit; none where there is a widening, a table of fallbacks or a default, which do
+-- not go with that
 abbrev pub pick_all_words : PickWords → Option PickAllWords
-pick_all_words words = where_plain words.preferences.field.widening words.preferences.default
+pick_all_words words = where_plain words.preferences.field.widening
+    words.preferences.field.fallbacks words.preferences.default
     (record { field = words.preferences.field; tags = words.tags })
 
 -- what `filter` is given; none where a word is missing
@@ -75,4 +78,4 @@ outdated_words rows =
 
 -- the number of a refusal
 abbrev pub is_refusal : ℕ → Bool
-is_refusal number = nat_lt 0 number && nat_lt number 31
+is_refusal number = nat_lt 0 number && nat_lt number 32

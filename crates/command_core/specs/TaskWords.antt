@@ -1,5 +1,6 @@
 -- The tasks that the arguments of each command give (project rules).
-use Rattle.std.specs.Prelude.{◌≡◌, ◌<◌, ◌^◌, ℕ, Bool, true, false, List, Option, None, Some, codes}
+use Rattle.std.specs.Prelude.{◌≡◌, ◌<◌, ◌^◌, ◌∷◌, [], ℕ, Bool, true, false, List, Option, None}
+use Rattle.std.specs.Prelude.{Some, codes}
 use Rattle.std.specs.Prelude.{option_and_then, option_map, if◌then◌else◌, MatchOption}
 use Rattle.std.specs.Str.{bytes_eq}
 use Rattle.std.specs.Str.Parse.{IsNumeral, digits_value, without_leading_plus}
@@ -74,8 +75,8 @@ abbrev pick_asked : Bool → PickWords → Option TaskWords
 pick_asked false words = Some (Pick words)
 pick_asked true words = option_map PickAll (pick_all_words words)
 
--- all tags that fit where `--all` is given, which goes with no default and no widening; else the
--- one that fits best
+-- all tags that fit where `--all` is given, which goes with no default, no widening and no table of
+-- fallbacks; else the one that fits best
 abbrev pub pick_task : List Row → Option TaskWords
 pick_task rows =
     option_and_then (pick_asked (is_given (first_of (codes "all") rows))) (pick_words rows)
@@ -104,38 +105,56 @@ checks_words limit rows = record {
 abbrev pub shows_of : Bool → Shows
 shows_of shows_labels = if shows_labels then Labels else Stamps
 
--- the task of the command of this name with these numbers, or none: it is no command of the
--- program, a word is missing, or two do not go together
+-- a command: its name, and the task that its numbers and arguments give, or none where a word is
+-- missing, or two do not go together
+abbrev pub CommandTask : Type 0
+CommandTask = Text × (Numbers → List Row → Option TaskWords)
+
+-- the commands of the program
+abbrev pub command_tasks : List CommandTask
+command_tasks =
+    (codes "pick", λ numbers rows. pick_task rows)
+    ∷ (codes "new", λ numbers rows. option_map New (first_of (codes "site") rows))
+    ∷ (codes "put", λ numbers rows. option_map Edit (put_words numbers.now rows))
+    ∷ (codes "delete", λ numbers rows. option_map Edit (delete_words numbers.now rows))
+    ∷ (codes "status", λ numbers rows. Some (View view.Status))
+    ∷ (codes "import", λ numbers rows. edit_task document.Import numbers.now)
+    ∷ (codes "update", λ numbers rows. edit_task document.Update numbers.now)
+    ∷ (codes "export", λ numbers rows. Some (View view.Export))
+    ∷ (codes "missing", λ numbers rows. option_map Missing (first_of (codes "lang") rows))
+    ∷ (codes "outdated", λ numbers rows. option_map Outdated (outdated_words rows))
+    ∷ (codes "changes", λ numbers rows. Some Changes)
+    ∷ (codes "labels", λ numbers rows. Some (View view.Labels))
+    ∷ (codes "filter", λ numbers rows. option_map Filter (filter_words rows))
+    ∷ (codes "lookup", λ numbers rows. option_map Lookup (lookup_words rows))
+    ∷ (codes "bundle", λ numbers rows. option_map Bundle (reader_words rows))
+    ∷ (
+      codes "summary",
+      λ numbers rows. Some (View (view.Summary (shows_of (is_given
+          (first_of (codes "labels") rows))))),
+    )
+    ∷ (codes "delta", λ numbers rows. Some (Document document.Delta))
+    ∷ (
+      codes "take",
+      λ numbers rows. Some (Document (document.Take (checks_words numbers.not_after rows))),
+    )
+    ∷ (codes "sync", λ numbers rows. Some (Sync (checks_words numbers.not_after rows)))
+    ∷ (
+      codes "merge",
+      λ numbers rows. Some (Document (document.Merge (checks_words numbers.not_after rows))),
+    )
+    ∷ (codes "replay", λ numbers rows. Some Replay)
+    ∷ (codes "explain", λ numbers rows. explain_task numbers.error) ∷ []
+
+-- the task of the first of the commands that has this name, or none where none has
+abbrev pub task_among : List CommandTask → Text → Numbers → List Row → Option TaskWords
+task_among [] name numbers rows = None
+task_among (command ∷ commands) name numbers rows = if bytes_eq name command.0 then
+    command.1 numbers rows else task_among commands name numbers rows
+
+-- the task of the command of this name with these numbers, or none
 abbrev pub task_words : Text → Numbers → List Row → Option TaskWords
-task_words name numbers rows =
-    if bytes_eq name (codes "pick") then pick_task rows
-    else (if bytes_eq name (codes "new") then option_map New (first_of (codes "site") rows)
-    else (if bytes_eq name (codes "put") then option_map Edit (put_words numbers.now rows)
-    else (if bytes_eq name (codes "delete") then option_map Edit (delete_words numbers.now rows)
-    else (if bytes_eq name (codes "status") then Some (View view.Status)
-    else (if bytes_eq name (codes "import") then edit_task document.Import numbers.now
-    else (if bytes_eq name (codes "update") then edit_task document.Update numbers.now
-    else (if bytes_eq name (codes "export") then Some (View view.Export)
-    else (if bytes_eq name (codes "missing") then option_map Missing (first_of (codes "lang") rows)
-    else (if bytes_eq name (codes "outdated") then option_map Outdated (outdated_words rows)
-    else (if bytes_eq name (codes "changes") then Some Changes
-    else (if bytes_eq name (codes "labels") then Some (View view.Labels)
-    else (if bytes_eq name (codes "filter") then option_map Filter (filter_words rows)
-    else (if bytes_eq name (codes "lookup") then option_map Lookup (lookup_words rows)
-    else (if bytes_eq name (codes "bundle") then
-    option_map Bundle (reader_words rows)
-    else (if bytes_eq name (codes "summary") then
-    Some (View (view.Summary (shows_of (is_given (first_of (codes "labels") rows)))))
-    else (if bytes_eq name (codes "delta") then Some (Document document.Delta)
-    else (if bytes_eq name (codes "take") then
-    Some (Document (document.Take (checks_words numbers.not_after rows)))
-    else (if bytes_eq name (codes "sync") then
-    Some (Sync (checks_words numbers.not_after rows))
-    else (if bytes_eq name (codes "merge") then
-    Some (Document (document.Merge (checks_words numbers.not_after rows)))
-    else (if bytes_eq name (codes "replay") then Some Replay
-    else (if bytes_eq name (codes "explain") then explain_task numbers.error
-    else None)))))))))))))))))))))
+task_words = task_among command_tasks
 
 -- the task of the matched subcommand, with the numbers that its arguments give
 abbrev pub GivesTask : Option (Text × List Row) → Option TaskWords → Type 0

@@ -4,7 +4,8 @@ ghost use Rattle.clap.specs.Words.{app_of, new_app};
 ghost use Rattle.clap.specs.declared.builder.command.Command.TheViews.{out-Command};
 ghost use Rattle.command_core.specs.ArgumentsWords.{IsArgument, IsCommand, Joins, default_rule};
 ghost use Rattle.command_core.specs.ArgumentsWords.{checks_app, edit_app};
-ghost use Rattle.command_core.specs.ArgumentsWords.{field_rule, flag_rule, id_rule, lang_rule};
+ghost use Rattle.command_core.specs.ArgumentsWords.{fallbacks_rule, field_rule, flag_rule};
+ghost use Rattle.command_core.specs.ArgumentsWords.{id_rule, lang_rule};
 ghost use Rattle.command_core.specs.ArgumentsWords.{error_rule, not_after_rule, now_rule};
 ghost use Rattle.command_core.specs.ArgumentsWords.{preferences_app};
 ghost use Rattle.command_core.specs.ArgumentsWords.{offer_rule, required_rule, scheme_rule};
@@ -89,6 +90,19 @@ pub(crate) fn widen<'a>(alloc: Global) -> Arg<'a>
     )
 }
 
+/// `--fallbacks`, the table of fallbacks by which a lookup goes.
+pub(crate) fn fallbacks<'a>(alloc: Global) -> Arg<'a>
+    ensures { IsArgument fallbacks_rule result }
+{
+    Arg::new(alloc, "fallbacks")
+        .long("fallbacks")
+        .value_name("TABLE")
+        .help(
+            "What lookup tries for a tag before it truncates the tag, such as \"zh-TW=zh-Hant, \
+                no=nb\"; RFC 4647 has no such table",
+        )
+}
+
 /// `--all`, which takes no value.
 pub(crate) fn all<'a>(alloc: Global) -> Arg<'a>
     ensures { IsArgument (flag_rule (codes "all")) result }
@@ -97,7 +111,7 @@ pub(crate) fn all<'a>(alloc: Global) -> Arg<'a>
         alloc,
         "all",
         "Print all tags that fit with their weights, best first; cannot be combined with \
-            --default or --widen",
+            --default, --widen or --fallbacks",
     )
 }
 
@@ -215,8 +229,8 @@ pub(crate) fn source<'a>(alloc: Global) -> Arg<'a>
     )
 }
 
-/// The command with what a reader prefers: how the ranges are read, the default, and the ranges by
-/// this name.
+/// The command with what a reader prefers: how the ranges are read and what they find, the default,
+/// and the ranges by this name.
 pub(crate) fn with_preferences<'a>(
     alloc: Global,
     command: Command<'a>,
@@ -232,6 +246,7 @@ pub(crate) fn with_preferences<'a>(
         .arg(scheme(alloc, schemes))?
         .arg(lenient(alloc))?
         .arg(widen(alloc))?
+        .arg(fallbacks(alloc))?
         .arg(default(alloc))?
         .arg(field(alloc, name, value))
 }

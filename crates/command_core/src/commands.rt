@@ -249,7 +249,8 @@ fn outdated<'a>(alloc: Global) -> Result<Command<'a>, AllocError>
     .arg(arguments::source(alloc))
 }
 
-/// `pick [--scheme SCHEME] [--lenient] [--widen] [--default LANG] [--all] RANGES TAG..`
+/// `pick [--scheme SCHEME] [--lenient] [--widen] [--fallbacks TABLE] [--default LANG] [--all]
+/// RANGES TAG..`
 fn pick<'a>(alloc: Global, schemes: &'a [&'a str]) -> Result<Command<'a>, AllocError>
     ensures { IfOk result (IsCommand (pick_app schemes.entry)) }
 {
@@ -283,7 +284,8 @@ fn filter<'a>(alloc: Global, schemes: &'a [&'a str]) -> Result<Command<'a>, Allo
     .arg(arguments::field(alloc, "field", "FIELD"))
 }
 
-/// `lookup --id ID [--offer FIELD] [--scheme SCHEME] [--lenient] [--widen] [--default LANG] FIELD`
+/// `lookup --id ID [--offer FIELD] [--scheme SCHEME] [--lenient] [--widen] [--fallbacks TABLE]
+/// [--default LANG] FIELD`
 fn lookup<'a>(alloc: Global, schemes: &'a [&'a str]) -> Result<Command<'a>, AllocError>
     ensures { IfOk result (IsCommand (lookup_app schemes.entry)) }
 {
@@ -300,7 +302,8 @@ fn lookup<'a>(alloc: Global, schemes: &'a [&'a str]) -> Result<Command<'a>, Allo
     arguments::with_preferences(alloc, command, schemes, "field", "FIELD")
 }
 
-/// `bundle [--offer FIELD] [--scheme SCHEME] [--lenient] [--widen] [--default LANG] FIELD`
+/// `bundle [--offer FIELD] [--scheme SCHEME] [--lenient] [--widen] [--fallbacks TABLE]
+/// [--default LANG] FIELD`
 fn bundle<'a>(alloc: Global, schemes: &'a [&'a str]) -> Result<Command<'a>, AllocError>
     ensures { IfOk result (IsCommand (bundle_app schemes.entry)) }
 {

@@ -22,7 +22,7 @@ use std::convert::AsStr;
 static SCHEMES: [&str; 2] = ["basic", "extended"];
 
 /// What `explain` takes: the numbers of errors, then their words.
-static ERRORS: [&str; 60] = [
+static ERRORS: [&str; 62] = [
     "1",
     "2",
     "3",
@@ -53,6 +53,7 @@ static ERRORS: [&str; 60] = [
     "28",
     "29",
     "30",
+    "31",
     "tag-empty",
     "tag-too-long",
     "subtag-malformed",
@@ -83,6 +84,7 @@ static ERRORS: [&str; 60] = [
     "unknown-version",
     "clock-ahead",
     "own-edit-missing",
+    "fallback-malformed",
 ];
 
 /// Runs the program on the arguments after its name, and gives its status. `help` is `--help`, and

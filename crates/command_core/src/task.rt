@@ -37,8 +37,8 @@ use std::alloc::Global;
 /// with 25 a prefix of the text is written, and with any other nothing.
 ///
 /// Matches without a command of the program, without an argument that the command needs, or with
-/// two that do not go together (`pick --all` with `--default` or `--widen`), are a usage fault:
-/// status 2, and nothing is read or written.
+/// two that do not go together (`pick --all` with `--default`, `--widen` or `--fallbacks`), are a
+/// usage fault: status 2, and nothing is read or written.
 pub fn act<R: Source, W: Sink, F: Sink>(
     alloc: Global,
     matches: &ArgMatches<'_>,
@@ -158,8 +158,8 @@ fn task_of<'m, 'a>(name: &str, matches: &'m ArgMatches<'a>) -> Option<Task<'m, '
     }
 }
 
-/// The pick of the arguments: of all tags that fit with `--all`, which goes with no widening and no
-/// default.
+/// The pick of the arguments: of all tags that fit with `--all`, which goes with no widening, no
+/// table of fallbacks and no default.
 fn pick_of<'m, 'a>(matches: &'m ArgMatches<'a>) -> Option<Task<'m, 'a>>
     ensures { option_map task_values result ≡ pick_task (rows_of (found_of matches.now)) }
 {
@@ -168,9 +168,12 @@ fn pick_of<'m, 'a>(matches: &'m ArgMatches<'a>) -> Option<Task<'m, 'a>>
     if !is_given(matches, "all") {
         return Some(Task::Pick(preferences, tags));
     }
-    match (preferences.field.widening, preferences.default) {
-        (Widening::Off, None) => Some(Task::PickAll(preferences.field, tags)),
-        _ => None,
+    let field = preferences.field;
+    match (field.widening, field.fallbacks, preferences.default) {
+        (Widening::By(_), _, _) => None,
+        (Widening::Off, [_, ..], _) => None,
+        (Widening::Off, [], Some(_)) => None,
+        (Widening::Off, [], None) => Some(Task::PickAll(field, tags)),
     }
 }
 
@@ -230,7 +233,7 @@ fn checks_of(not_after: Option<u64>, matches: &ArgMatches<'_>) -> Checks
     }
 }
 
-/// The field of an argument, read as `--scheme`, `--lenient` and `--widen` say.
+/// The field of an argument, read as `--scheme`, `--lenient`, `--widen` and `--fallbacks` say.
 fn field_of<'a>(matches: &ArgMatches<'a>, id: &str) -> Option<Field<'a>>
     ensures { option_map field_text result ≡ spec.field_of id.now (rows_of (found_of matches.now)) }
 {
@@ -242,8 +245,19 @@ fn field_of<'a>(matches: &ArgMatches<'a>, id: &str) -> Option<Field<'a>>
         scheme,
         malformed,
         widening,
+        fallbacks: fallbacks_of(text_bytes(matches, "fallbacks")),
         text: text.as_bytes(),
     })
+}
+
+/// The table of fallbacks that is given; where there is none, one without bytes.
+fn fallbacks_of(text: Option<&[u8]>) -> &[u8]
+    ensures { result.now ≡ spec.fallbacks_of (option_map (λ s. s.now) text.entry) }
+{
+    match text {
+        None => &[],
+        Some(text) => text,
+    }
 }
 
 /// The preferences whose field is this argument.

@@ -68,7 +68,8 @@ shown_not_refused : (number : ℕ) (bytes : List ℕ) (shown : ShownState) (faul
 shown_not_refused number bytes shown fault reads (cause, why, is) =
     read_not_refused shown_checks shown_named IsShownDocument bytes shown cause reads why
 
-maps_not_refused : (number : ℕ) (bytes : List ℕ) (labels : List Labelled) (fault : DocFault)
+-- language maps that are read are not refused
+pub maps_not_refused : (number : ℕ) (bytes : List ℕ) (labels : List Labelled) (fault : DocFault)
     → AreLangMaps bytes labels → IsOfDocument number (RefusesLangMaps bytes) fault → ⊥
 maps_not_refused number bytes labels fault reads (cause, why, is) =
     read_not_refused langmaps_checks langmaps ReadsAsLangMaps bytes labels cause reads why
@@ -85,7 +86,8 @@ one_of_shown : (number : ℕ) (bytes : List ℕ) (x y : DocFault)
 one_of_shown number bytes = one_of_document number (RefusesShown bytes)
     (one_cause shown_checks shown_named bytes)
 
-one_of_maps : (number : ℕ) (bytes : List ℕ) (x y : DocFault)
+-- language maps are refused by one fault
+pub one_of_maps : (number : ℕ) (bytes : List ℕ) (x y : DocFault)
     → IsOfDocument number (RefusesLangMaps bytes) x
     → IsOfDocument number (RefusesLangMaps bytes) y → x ≡ y
 one_of_maps number bytes = one_of_document number (RefusesLangMaps bytes)
@@ -298,7 +300,8 @@ delta_in_time_not_refused number limit bytes delta fault (reads, in_time) why =
           (one_delta bytes other delta again reads) ahead)
     ]
 
-one_delta_until : (number : ℕ) (limit : Option ℕ) (bytes : List ℕ) (x y : DocFault)
+-- a delta is refused by one fault, or one of its times
+pub one_delta_until : (number : ℕ) (limit : Option ℕ) (bytes : List ℕ) (x y : DocFault)
     → RefusesDeltaUntil number limit bytes x → RefusesDeltaUntil number limit bytes y → x ≡ y
 one_delta_until number limit bytes x y p q = elim p [
   | inl a ↦ elim q [
@@ -458,7 +461,7 @@ one_changes_call a b x y p q = elim p [
 -- ---- imports and updates
 
 -- changes that are made do not spend the clock
-made_not_spent : (now : ℕ) (name : List ℕ) (changes : List Change) (old new : Entries)
+pub made_not_spent : (now : ℕ) (name : List ℕ) (changes : List Change) (old new : Entries)
     → Makes now name changes old new → SpendsClock now name changes old → ⊥
 made_not_spent now name [] old new makes spends = spends
 made_not_spent now name (e ∷ es) old new (stamp, next, rest) spends = elim spends as (λ _. ⊥) [

@@ -29,7 +29,7 @@ use Rattle.list_core.specs.declared.fault.NegoFault.TheVariants as nego
 use Rattle.list_core.specs.declared.field.Malformed.TheVariants.{Refused}
 use Rattle.list_core.specs.declared.scheme.Scheme.{Scheme}
 use Rattle.list_core.proofs.FieldLemmas.{malformed_is_no_field, one_malformed}
-use Rattle.site_docs.proofs.LanguagesLemmas.{has_no_subtags}
+use Rattle.lang_core.proofs.TagRefusedLemmas.{has_no_subtags}
 
 -- ---- languages
 
@@ -190,6 +190,7 @@ field_cause : (scheme : Scheme) (text : List ℕ) (fault : NegoFault) → fault 
     → RefusesField scheme Refused text fault → FieldCause scheme text fault
 field_cause scheme text nego.FieldTooLong n h = inl (refl, h)
 field_cause scheme text (nego.FieldMalformed offset) n h = inr (offset, refl, h.0, h.1)
+field_cause scheme text (nego.FallbackMalformed offset) n h = absurd h
 field_cause scheme text nego.NoMemory n h = absurd (n refl)
 
 -- a field of a priority list is not refused as one

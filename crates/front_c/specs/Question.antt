@@ -13,15 +13,28 @@ use Rattle.summary_docs.specs.declared.summaries.Shows.{Shows}
 use Rattle.summary_docs.specs.declared.summaries.Shows.TheVariants.{Labels, Stamps}
 use Rattle.front_core.specs.Preferences.{FieldText}
 
--- a field with its scheme and what malformed elements do, for a lookup that is not widened
+-- a field with its scheme and what malformed elements do, for a lookup that is not widened and goes
+-- by no table of fallbacks
 abbrev pub field : Scheme → Malformed → List ℕ → FieldText
 field scheme malformed text =
-    record { scheme = scheme; malformed = malformed; widening = Off; text = text }
+    record {
+      scheme = scheme;
+      malformed = malformed;
+      widening = Off;
+      fallbacks = [];
+      text = text;
+    }
 
 -- the same for a widened lookup
 abbrev pub widened : Scheme → Malformed → List ℕ → FieldText
 widened scheme malformed text =
-    record { scheme = scheme; malformed = malformed; widening = By scheme; text = text }
+    record {
+      scheme = scheme;
+      malformed = malformed;
+      widening = By scheme;
+      fallbacks = [];
+      text = text;
+    }
 
 -- how a field is read under these flags: 1 is the extended scheme, 2 skips malformed elements,
 -- 3 is both

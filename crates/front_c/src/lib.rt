@@ -54,6 +54,7 @@ ghost use Rattle.front_core.specs.declared.exchange.View.TheVariants.{Document, 
 ghost use Rattle.front_core.specs.declared.exchange.View.TheVariants.{Status};
 
 mod handles;
+pub mod laws;
 mod question;
 mod reporting;
 mod rules;

@@ -24,6 +24,7 @@ pub(crate) fn field_of(flags: u32, text: &[u8]) -> Option<Field<'_>>
         scheme,
         malformed,
         widening: Widening::Off,
+        fallbacks: &[],
         text,
     })
 }
@@ -44,6 +45,7 @@ pub(crate) fn lookup_field_of(flags: u32, text: &[u8]) -> Option<Field<'_>>
         scheme,
         malformed,
         widening: Widening::By(scheme),
+        fallbacks: &[],
         text,
     })
 }

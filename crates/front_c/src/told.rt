@@ -10,7 +10,7 @@ use front_core::FrontFault;
 pub struct Told {
     /// The bytes of the answer, also where the buffer has no room for them.
     pub len: usize,
-    /// The place of refusals 3, 7, 9 and 18 in the text that is refused, from 0.
+    /// The place of refusals 3, 9 and 18 in the text that is refused, from 0.
     pub offset: usize,
     /// The row of a document's refusal, from 0.
     pub row: usize,

@@ -1,5 +1,7 @@
 pub mod ArrivalsLemmas
+pub mod AskStages
 pub mod OpenSiteLemmas
+pub mod OpenSiteStages
 pub mod RefusalLemmas
 pub mod SpareLemmas
 pub mod TagFilterLemmas

@@ -10,12 +10,12 @@ use Rattle.front_core.specs.Refusal.{RefusalTexts, number_of_code, refusal_of, r
 use Rattle.front_core.specs.Refusal.{refusals}
 use Rattle.front_core.specs.declared.refusal.Refusal.{Refusal}
 
--- there are 30
-count : length refusals ≡ 30
+-- there are 31
+count : length refusals ≡ 31
 count = refl
 
--- A number above 30 has no refusal.
-pub above_has_none : (number : ℕ) → 30 < number → refusal_of number ≡ None
+-- A number above 31 has no refusal.
+pub above_has_none : (number : ℕ) → 31 < number → refusal_of number ≡ None
 above_has_none number h =
     let some : (number == 0) ≡ false = grind (arith, nat_tests, h) in
     let past : length refusals ≤ number - 1 = rw count (omega (arith, h)) in

@@ -7,19 +7,12 @@ use Rattle.std.proofs.lemmas.List.Elements.{All-map, All-weaker}
 use Rattle.std.proofs.lemmas.List.Sorted.{All-permutation}
 use Rattle.std.proofs.lemmas.Option.{slice_get_within}
 use Rattle.nego_core.proofs.FilteringEach.{IsKeyFrom, keys_right}
-use Rattle.nego_core.specs.Filtering.{IsFiltered, Key, pick_of}
+use Rattle.nego_core.specs.Filtering.{IsFiltered, pick_of}
 use Rattle.list_core.specs.Item.{Item}
 use Rattle.nego_core.specs.declared.filtering.Pick.{Pick}
 use Rattle.list_core.specs.declared.scheme.Scheme.{Scheme}
 use Rattle.front_core.specs.Preferences.{Text}
 use Rattle.front_core.specs.TagFilter.{HaveNames, texts_of}
-
-key_within : (scheme : Scheme) (items : List Item) (langs : List (List ℕ)) (key : Key)
-    → IsKeyFrom scheme items 0 langs key → key.place < length langs
-key_within scheme items langs key h =
-    let within : h.n < length langs = slice_get_within langs h.n h.lang h.stands in
-    let place = h.key_ok.place_is in
-    omega arith
 
 -- what is picked is one of the languages
 pub picks_within : (scheme : Scheme) (items : List Item) (langs : List (List ℕ)) (picks : List Pick)
@@ -27,7 +20,9 @@ pub picks_within : (scheme : Scheme) (items : List Item) (langs : List (List ℕ
 picks_within scheme items langs picks f =
     rw f.picks_are (All-map (λ p. p.place < length langs) pick_of f.keys
     (All-weaker (IsKeyFrom scheme items 0 langs) (λ k. k.place < length langs)
-    (key_within scheme items langs) f.keys
+    (λ k h.
+    let within : h.n < length langs = slice_get_within langs h.n h.lang h.stands in
+    let place = h.key_ok.place_is in omega arith) f.keys
     (All-permutation (IsKeyFrom scheme items 0 langs) f.all f.keys f.each_once
     (keys_right scheme items 0 langs f.all f.all_ok))))
 

@@ -1,6 +1,6 @@
 -- A pick has one line, or none where it is refused.
 use Rattle.std.proofs.Common.{◌≡◌, ◌≢◌, ◌∙◌, ◌<◌, ℕ, List, [], ◌∷◌, ◌++◌, ap, ap₂, refl, sym, subst}
-use Rattle.std.proofs.Common.{inl, inr, length, Option, None, Some, arith}
+use Rattle.std.proofs.Common.{◌≤◌, inl, inr, length, Option, None, Some, arith}
 use Rattle.std.specs.Str.{str_to_ascii_lowercase}
 use Rattle.lang_core.specs.Tag.{IsTag, RefusesTag}
 use Rattle.lang_core.specs.Grammar.{tag_piece}
@@ -15,6 +15,10 @@ use Rattle.nego_core.specs.LangSet.{is_among}
 use Rattle.list_core.specs.Item.{Item}
 use Rattle.list_core.proofs.FieldLemmas.{malformed_is_no_field}
 use Rattle.list_core.proofs.FieldUnique.{one_items}
+use Rattle.list_core.proofs.FallbacksLawsLemmas.{one_table, table_memory}
+use Rattle.list_core.specs.Fallbacks.{with_fallbacks}
+use Rattle.list_core.specs.declared.fallbacks.Fallback.{Fallback}
+use Rattle.std.specs.Prelude.{map}
 use Rattle.nego_core.proofs.ChoosingCandidatesLemmas.{one_lookup}
 use Rattle.nego_core.proofs.WideningLemmas.{one_widened}
 use Rattle.nego_core.specs.declared.widening.Widening.{Widening}
@@ -86,13 +90,23 @@ one_found by list langs default Nothing (Default y) f g =
     absurd (f.1 (subst (λ d. HasOpenDefault list (is_among langs) d) (sym g.1) g.2))
 one_found by list langs default Nothing Nothing f g = refl
 
+one_list : (field : FieldText) (a b : List Item) → ReadsAs field a → ReadsAs field b → a ≡ b
+one_list field a b f g =
+    let tables : f.table ≡ g.table =
+    one_table field.fallbacks f.table g.table f.table_ok.1 g.table_ok.1 in
+    let items : f.list_ok.0 ≡ g.list_ok.0 =
+    one_items field.scheme field.malformed field.text f.list_ok.0 g.list_ok.0 f.list_ok.1
+    g.list_ok.1 in
+    f.list_ok.2
+    ∙ (ap (λ (table : List Fallback). map (with_fallbacks table) f.list_ok.0) tables
+    ∙ (ap (map (with_fallbacks g.table)) items ∙ sym g.list_ok.2))
+
 one_picked : (field : FieldText) (word : Option Text) (tags : List Text) (a b : Finding)
     → IsPicked field word tags a → IsPicked field word tags b → a ≡ b
 one_picked field word tags a b f g =
     let defaults : f.default ≡ g.default = one_default word f.default g.default f.default_ok
     g.default_ok in
-    let lists : f.list ≡ g.list = one_items field.scheme field.malformed field.text f.list g.list
-    f.list_ok.1 g.list_ok.1 in
+    let lists : f.list ≡ g.list = one_list field f.list g.list f.list_ok g.list_ok in
     let langs : f.langs ≡ g.langs = one_langs tags f.langs g.langs f.langs_ok g.langs_ok in
     let by = field.widening in
     let found : Finds by g.list g.langs g.default a =
@@ -140,13 +154,15 @@ tags_refused tags langs fault h all =
     langs) h.whole all) in
     lang_refused h.word spelt.0 fault h.word_not spelt.1
 
-default_refused : (word : Option Text) (default : Option (List ℕ)) (fault : LangFault)
+-- so is a default that spells a language
+pub default_refused : (word : Option Text) (default : Option (List ℕ)) (fault : LangFault)
     → RefusesDefault word fault → IsDefault word default → fault ≡ lang.NoMemory
 default_refused None default fault h is = absurd h
 default_refused (Some w) None fault h is = absurd is
 default_refused (Some w) (Some x) fault h is = lang_refused w x fault h is
 
-tags_memory : (tags : List Text) (langs : List (List ℕ)) (fault : LangFault)
+-- tags that spell languages are refused for lack of memory alone
+pub tags_memory : (tags : List Text) (langs : List (List ℕ)) (fault : LangFault)
     → RefusesTags tags fault → SpellLangs tags langs → fault ≡ lang.NoMemory
 tags_memory tags langs lang.NoMemory h all = refl
 tags_memory tags langs lang.TagEmpty h all = tags_refused tags langs lang.TagEmpty h all
@@ -167,13 +183,23 @@ malformed_refused scheme Refused text offset list h f = malformed_is_no_field sc
     list h.1 f
 malformed_refused scheme PassedOver text offset list h f = absurd h
 
-field_memory : (field : FieldText) (list : List Item) (fault : NegoFault)
+items_memory : (field : FieldText) (items : List Item) (fault : NegoFault)
+    → RefusesField field.scheme field.malformed field.text fault → length field.text ≤ 65535
+    → IsField field.scheme field.malformed field.text items → fault ≡ nego.NoMemory
+items_memory field items nego.FieldTooLong h fits f =
+    let long : 65535 < length field.text = h in absurd (omega (arith, long, fits))
+items_memory field items (nego.FieldMalformed offset) h fits f =
+    absurd (malformed_refused field.scheme field.malformed field.text offset items h f)
+items_memory field items (nego.FallbackMalformed offset) h fits f = absurd h
+items_memory field items nego.NoMemory h fits f = refl
+
+-- so is a field that is read
+pub field_memory : (field : FieldText) (list : List Item) (fault : NegoFault)
     → RefusesRanges field fault → ReadsAs field list → fault ≡ nego.NoMemory
-field_memory field list nego.FieldTooLong h reads = let fits = reads.0 in
-    let long : 65535 < length field.text = h in absurd (omega arith)
-field_memory field list (nego.FieldMalformed offset) h reads =
-    absurd (malformed_refused field.scheme field.malformed field.text offset list h reads.1)
-field_memory field list nego.NoMemory h reads = refl
+field_memory field list fault (inl table) reads =
+    table_memory field.fallbacks reads.table fault table reads.table_ok.0 reads.table_ok.1
+field_memory field list fault (inr ranges) reads =
+    items_memory field reads.list_ok.0 fault ranges.1 reads.short reads.list_ok.1
 
 -- what can be picked from is refused for lack of memory alone
 pub no_line : (field : FieldText) (word : Option Text) (tags : List Text) (line : List ℕ)

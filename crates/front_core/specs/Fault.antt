@@ -1,6 +1,6 @@
 -- The refusals of this crate: each is one of the crates below, and out of memory has one form
 -- (project rule).
-use Rattle.std.specs.Prelude.{◌≡◌, ◌^◌, ℕ, Option, None, Some, if◌then◌else◌, nat_lt}
+use Rattle.std.specs.Prelude.{◌≡◌, ◌≢◌, ◌^◌, ℕ, Option, None, Some, if◌then◌else◌, nat_lt}
 use Rattle.lang_core.specs.Fault.{number_of as lang_number, offset_of as lang_offset}
 use Rattle.lang_core.specs.declared.fault.LangFault.{LangFault}
 use Rattle.list_core.specs.Fault.{number_of as nego_number}
@@ -30,9 +30,10 @@ number_of (Field fault) = nego_number fault
 number_of (Document fault) = doc.number_of fault.cause
 number_of NoMemory = 26
 
--- where in a field the element begins that is refused
+-- where in a field or a table the element begins that is refused
 abbrev pub nego_offset : NegoFault → Option ℕ
 nego_offset (nego.FieldMalformed offset) = Some offset
+nego_offset (nego.FallbackMalformed offset) = Some offset
 nego_offset _ = None
 
 -- the place in the text of a row's field
@@ -125,3 +126,9 @@ site_fault fault = document_fault (doc.of_no_document (doc.of_site fault))
 -- it is a refusal of the crate below, in the form that it has here
 abbrev pub IsOf : {F : Type 0} → (F → FrontFault) → (F → Type 0) → FrontFault → Type 0
 IsOf {F} form Refuses fault = (refused : F) × Refuses refused × (fault ≡ form refused)
+
+-- nothing is both answered and refused, and it is refused by one fault, lack of memory apart, by
+-- which each call may end
+pub record IsDecided (Answers : Type 0) (Refuses : FrontFault → Type 0) : Type 0 where
+  pub apart : (fault : FrontFault) → fault ≢ NoMemory → Answers → ¬ Refuses fault
+  pub one : (x y : FrontFault) → x ≢ NoMemory → y ≢ NoMemory → Refuses x → Refuses y → x ≡ y

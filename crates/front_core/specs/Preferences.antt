@@ -3,8 +3,10 @@
 use Rattle.std.specs.Prelude.{◌≤◌, ℕ, List, length, ◌≡◌, ◌⊎◌, Option, None, Some}
 use Rattle.lang_core.specs.Lang.{SpellsLang, RefusesLang}
 use Rattle.lang_core.specs.declared.fault.LangFault.{LangFault}
-use Rattle.list_core.specs.Field.{IsField, RefusesField}
+use Rattle.list_core.specs.Fallbacks.{IsFieldBy, IsTable, RefusesTable}
+use Rattle.list_core.specs.Field.{RefusesField}
 use Rattle.list_core.specs.Item.{Item}
+use Rattle.list_core.specs.declared.fallbacks.Fallback.{Fallback}
 use Rattle.list_core.specs.declared.fault.NegoFault.{NegoFault}
 use Rattle.list_core.specs.declared.field.Malformed.{Malformed}
 use Rattle.list_core.specs.declared.scheme.Scheme.{Scheme}
@@ -18,11 +20,13 @@ use Rattle.front_core.specs.declared.preferences.Preferences.{Preferences}
 abbrev pub Text : Type 0
 Text = List ℕ
 
--- a field's bytes, the scheme of its ranges, what malformed elements do, and how lookup widens
+-- a field's bytes, the scheme of its ranges, what malformed elements do, how lookup widens, and the
+-- bytes of the table of fallbacks by which it goes
 pub record FieldText : Type 0 where
   pub scheme : Scheme
   pub malformed : Malformed
   pub widening : Widening
+  pub fallbacks : Text
   pub text : Text
 
 -- what is passed in, as values
@@ -31,23 +35,35 @@ field_text field = record {
   scheme = field.scheme;
   malformed = field.malformed;
   widening = field.widening;
+  fallbacks = field.fallbacks.now;
   text = field.text.now;
 }
 
+-- the table that a text of fallbacks is read as
+abbrev pub IsTableText : Text → List Fallback → Type 0
+IsTableText text table = (length text ≤ 65535) × IsTable text table
+
+-- the text is read as some table
+abbrev pub HasTable : Text → Type 0
+HasTable text = (table : List Fallback) × IsTableText text table
+
 -- the list that it is read as: an Accept-Language field (RFC 9110 section 12.5.4), or extended
 -- ranges without weights (RFC 4647 section 2.2), whose malformed elements refuse it or are
--- skipped
-abbrev pub ReadsAs : FieldText → List Item → Type 0
-ReadsAs field list = (length field.text ≤ 65535)
-    × IsField field.scheme field.malformed field.text list
+-- skipped; its lookup goes by the table
+pub record ReadsAs (field : FieldText) (list : List Item) : Type 0 where
+  pub table : List Fallback
+  pub table_ok : IsTableText field.fallbacks table
+  pub short : length field.text ≤ 65535
+  pub list_ok : IsFieldBy table field.scheme field.malformed field.text list
 
 -- the field is read as some list
 abbrev pub HasList : FieldText → Type 0
 HasList field = (list : List Item) × ReadsAs field list
 
--- why it is no list
+-- why it is no list: the table is refused first, and then the field
 abbrev pub RefusesRanges : FieldText → NegoFault → Type 0
-RefusesRanges field = RefusesField field.scheme field.malformed field.text
+RefusesRanges field fault = RefusesTable field.fallbacks fault
+    ⊎ (HasTable field.fallbacks × RefusesField field.scheme field.malformed field.text fault)
 
 -- the language of the default, or none where there is no default
 abbrev pub IsDefault : Option Text → Option (List ℕ) → Type 0
@@ -73,7 +89,7 @@ ArePreferences field word asked =
 abbrev pub HasPreferences : FieldText → Option Text → Type 0
 HasPreferences field word = HasDefault word × HasList field
 
--- the default is refused first, and then the field
+-- the default is refused first, then the table of fallbacks, and then the field
 abbrev pub RefusesPreferences : FieldText → Option Text → FrontFault → Type 0
 RefusesPreferences field word fault =
     IsOf language_fault (RefusesDefault word) fault

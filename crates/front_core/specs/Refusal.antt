@@ -8,9 +8,9 @@ use Rattle.lang_core.specs.Fault.{meaning_of}
 use Rattle.front_core.specs.declared.refusal.Refusal.{Refusal}
 use Rattle.lang_core.specs.declared.fault.LangFault.TheVariants as lang
 
--- a refusal has the number: each from 1 to 30 is one
+-- a refusal has the number: each from 1 to 31 is one
 abbrev pub IsRefusalNumber : ℕ → Type 0
-IsRefusalNumber number = (1 ≤ number) × (number ≤ 30)
+IsRefusalNumber number = (1 ≤ number) × (number ≤ 31)
 
 -- its word, and what is printed, what is wanted, what there is instead, and what to do, each
 -- without an end mark
@@ -469,13 +469,28 @@ texts_30 =
           ++ codes "two sites have one name, give one of them another";
     }
 
--- the texts of the refusals 1 to 30, in their order
+-- what refusal 31 means, what causes it, and what to do
+abbrev texts_31 : RefusalTexts
+texts_31 =
+    record {
+      code = codes "fallback-malformed";
+      text = codes "fallback at OFFSET";
+      meaning =
+          codes "a table of fallbacks has elements TAG=TAG between commas, each left tag once";
+      cause =
+          codes "the element that begins at OFFSET is no TAG=TAG of well-formed tags, or an earlier "
+          ++ codes "one has its left tag";
+      remedy =
+          codes "look there; write the tags with hyphens, and keep one element of each left tag";
+    }
+
+-- the texts of the refusals 1 to 31, in their order
 abbrev pub refusals : List RefusalTexts
 refusals =
     texts_1 ∷ texts_2 ∷ texts_3 ∷ texts_4 ∷ texts_5 ∷ texts_6 ∷ texts_7 ∷ texts_8 ∷ texts_9
     ∷ texts_10 ∷ texts_11 ∷ texts_12 ∷ texts_13 ∷ texts_14 ∷ texts_15 ∷ texts_16 ∷ texts_17
     ∷ texts_18 ∷ texts_19 ∷ texts_20 ∷ texts_21 ∷ texts_22 ∷ texts_23 ∷ texts_24 ∷ texts_25
-    ∷ texts_26 ∷ texts_27 ∷ texts_28 ∷ texts_29 ∷ texts_30 ∷ []
+    ∷ texts_26 ∷ texts_27 ∷ texts_28 ∷ texts_29 ∷ texts_30 ∷ texts_31 ∷ []
 
 -- the texts of the refusal of this number
 abbrev pub refusal_of : ℕ → Option RefusalTexts

@@ -48,8 +48,8 @@ impl FrontFault {
         }
     }
 
-    /// Where in the text that is refused the fault lies, in bytes from 0: of refusals 3, 7, 9 and
-    /// 18 alone. In a document 3 and 9 count in the text of the row's field.
+    /// Where in the text that is refused the fault lies, in bytes from 0: of refusals 3, 9 and 18,
+    /// and of 7, which no call gives. In a document 3 and 9 count in the text of the row's field.
     pub fn offset(&self) -> Option<usize>
         ensures { result ≡ offset_of self.now }
     {
@@ -184,12 +184,14 @@ impl<T: Drop> From<AllocFailed<T>> for FrontFault {
     }
 }
 
-/// The offset of a fault of a field.
+/// The offset of a fault of a field, or of a table of fallbacks.
 fn nego_offset(fault: NegoFault) -> Option<usize>
     ensures { result ≡ nego_offset fault }
 {
     match fault {
-        NegoFault::FieldMalformed { offset } => Some(offset),
+        NegoFault::FieldMalformed { offset } | NegoFault::FallbackMalformed { offset } => {
+            Some(offset)
+        }
         _ => None,
     }
 }

@@ -38,7 +38,7 @@ pub fn a_join_can_be_repeated()
 pub fn each_refusal_has_its_word()
     ensures code { list_all (λ texts. is_code texts.code) refusals ≡ true }
     ensures own { map (λ texts. number_of_code texts.code) refusals
-        ≡ map (λ number. Some number) (range_with_len 1 30) }
+        ≡ map (λ number. Some number) (range_with_len 1 31) }
 {}
 
 /// Each text of a refusal is one line; the printed text and the meaning have at most 255 bytes.

@@ -22,7 +22,8 @@
 //!
 //! ```text
 //! let (scheme, malformed) = (Scheme::Basic, Malformed::PassedOver);
-//! let field = Field { scheme, malformed, widening: Widening::Off, text: b"da, en;q=0.8" };
+//! let field = Field { scheme, malformed, widening: Widening::Off, fallbacks: &[],
+//!     text: b"da, en;q=0.8" };
 //! pick(alloc, field, None, b"en\nfr\n")?               Picked::Matched(b"en")
 //! let site = OpenSite::read(alloc, document)?;
 //! let offering = Offering::Given(Offer::Public);

@@ -1,5 +1,5 @@
 //! What readers are offered of a site, as a question gets it.
-ghost use Rattle.std.specs.Prelude.{◌≡◌, ◌↔◌, IsTrue, MatchResult};
+ghost use Rattle.std.specs.Prelude.{◌≡◌, ◌↔◌, All, IsTrue, MatchResult, None};
 ghost use Rattle.nego_core.specs.Offer.{public_items};
 ghost use Rattle.front_core.specs.Offering.{IsOffer, RefusesOffer, offers_of};
 
@@ -75,7 +75,7 @@ impl Offered<'_> {
 
 /// Whether the list is that of the field `*, x;q=0`, which is faster without a list.
 fn is_public(list: &PriorityList) -> bool
-    ensures { IsTrue result → list.now ≡ public_items }
+    ensures { IsTrue result → All (λ i. i.listed ≡ None) list.now → list.now ≡ public_items }
 {
     match list.items() {
         [all, private] => is_item(all, "*", 1000) && is_item(private, "x", 0),

@@ -5,7 +5,7 @@ ghost use Rattle.front_core.specs.Preferences.{RefusesDefault};
 
 use crate::fault::FrontFault;
 use lang_core::{Lang, LangFault};
-use nego_core::{Malformed, NegoFault, PriorityList, Scheme, Widening};
+use nego_core::{Fallbacks, Malformed, NegoFault, PriorityList, Scheme, Widening};
 use std::alloc::Global;
 
 /// The text of a field, how it is read, and what its ranges find.
@@ -19,17 +19,24 @@ pub struct Field<'a> {
     /// Whether a lookup lets a range find the languages that it matches. A filter has no use for
     /// it.
     pub widening: Widening,
+    /// The text of a table of fallbacks, by which a lookup goes. Without bytes it is that of RFC
+    /// 4647. A filter has no use for it.
+    pub fallbacks: &'a [u8],
     /// Its bytes.
     pub text: &'a [u8],
 }
 
 impl Field<'_> {
-    /// The priority list of the field. Refused as [`PriorityList::parse`] refuses it: 8, 9, 26.
+    /// The priority list of the field, for lookups by its table of fallbacks.
+    ///
+    /// Refused is the table first, as [`Fallbacks::parse`] refuses it (8, 31), then the field, as
+    /// [`PriorityList::parse`] does (8, 9). Out of memory (26) may come before.
     pub fn read(self, alloc: Global) -> Result<PriorityList, NegoFault>
         ensures { MatchResult result (ReadsAs (field_text self.entry))
             (RefusesRanges (field_text self.entry)) }
     {
-        PriorityList::parse(alloc, self.scheme, self.malformed, self.text)
+        let fallbacks = Fallbacks::parse(alloc, self.fallbacks)?;
+        PriorityList::parse_with(alloc, self.scheme, self.malformed, &fallbacks, self.text)
     }
 }
 
@@ -49,8 +56,9 @@ impl Preferences {
 
     /// Reads preferences from a field and a default.
     ///
-    /// Refused are the default first (1 to 4), then the field (8, and 9 where a malformed element
-    /// refuses it). Out of memory (26) may come before a later refusal.
+    /// Refused are the default first (1 to 4), then the table of fallbacks (8, 31), then the field
+    /// (8, and 9 where a malformed element refuses it). Out of memory (26) may come before a later
+    /// refusal.
     pub fn read(
         alloc: Global,
         field: Field<'_>,

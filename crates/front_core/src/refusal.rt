@@ -22,8 +22,8 @@ pub struct Refusal {
     pub remedy: &'static str,
 }
 
-/// The refusals 1 to 30, in their order. What 1 to 7 mean is what `LangFault::meaning` says.
-static REFUSALS: [Refusal; 30] = [
+/// The refusals 1 to 31, in their order. What 1 to 7 mean is what `LangFault::meaning` says.
+static REFUSALS: [Refusal; 31] = [
     // 1
     Refusal {
         code: "tag-empty",
@@ -290,13 +290,22 @@ static REFUSALS: [Refusal; 30] = [
         remedy: "before the next edit apply what every other site has, without --check-own; if two \
             sites have one name, give one of them another",
     },
+    // 31
+    Refusal {
+        code: "fallback-malformed",
+        text: "fallback at OFFSET",
+        meaning: "a table of fallbacks has elements TAG=TAG between commas, each left tag once",
+        cause: "the element that begins at OFFSET is no TAG=TAG of well-formed tags, or an earlier \
+            one has its left tag",
+        remedy: "look there; write the tags with hyphens, and keep one element of each left tag",
+    },
 ];
 
-/// The refusal of a number, from 1 to 30; other numbers have none.
+/// The refusal of a number, from 1 to 31; other numbers have none.
 ///
 /// ```text
 /// explain(27)?.meaning  "a site name has 1 to 16 bytes of a to z, 0 to 9 and -"
-/// explain(31)           None
+/// explain(32)           None
 /// ```
 pub fn explain(number: u8) -> Option<Refusal>
     ensures number { IsSome result ↔ IsRefusalNumber number }
@@ -324,7 +333,7 @@ pub fn number_of_code(code: &str) -> Option<u8>
 /// The table.
 fn table() -> &'static [Refusal]
     ensures texts { map refusal_texts result.now ≡ refusals }
-    ensures count { length result.now ≡ 30 }
+    ensures count { length result.now ≡ 31 }
 {
     REFUSALS.as_slice()
 }

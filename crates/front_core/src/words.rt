@@ -1,5 +1,6 @@
 //! Picking and filtering languages among the arguments of a command (RFC 4647, sections 3.3, 3.4).
-ghost use Rattle.std.specs.Prelude.{◌≡◌, map, option_map, string_bytes, IfOk, MatchResult, None};
+ghost use Rattle.std.specs.Prelude.{◌≡◌, [], map, option_map, string_bytes, IfOk, MatchResult};
+ghost use Rattle.std.specs.Prelude.{None};
 ghost use Rattle.front_core.specs.Preferences.{FieldText, field_text};
 ghost use Rattle.front_core.specs.TagPick.{AnswersPick, Finds, IsPicked, IsPickLine, RefusesPick};
 ghost use Rattle.front_core.specs.TagPick.{pick_line, pick_outcome};
@@ -24,6 +25,7 @@ pub fn pick(alloc: Global, ranges: &str, tags: &[String]) -> Result<Doc, FrontFa
           scheme = Scheme.Basic;
           malformed = Malformed.Refused;
           widening = Widening.Off;
+          fallbacks = [];
           text = ranges.now;
         } in
         MatchResult result (IsPickLine field None (map string_bytes tags.now))
@@ -45,6 +47,7 @@ pub fn pick_scheme(
           scheme = scheme;
           malformed = Malformed.Refused;
           widening = Widening.Off;
+          fallbacks = [];
           text = ranges.now;
         } in
         MatchResult result (IsPickLine field None (map string_bytes tags.now))
@@ -73,6 +76,7 @@ pub fn pick_with(
           scheme = scheme;
           malformed = malformed;
           widening = Widening.Off;
+          fallbacks = [];
           text = ranges.now;
         } in
         MatchResult result (IsPickLine field (option_map (λ s. s.now) default.entry)
@@ -83,6 +87,7 @@ pub fn pick_with(
         scheme,
         malformed,
         widening: Widening::Off,
+        fallbacks: &[],
         text: ranges.as_bytes(),
     };
     let answer = pick_answer(alloc, field, bytes_of(default), tags)?;

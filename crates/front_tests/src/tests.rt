@@ -1,6 +1,7 @@
 //! Examples from the standards and from real clients, and what no contract says.
 mod bundling;
 mod explained;
+mod fallbacks;
 mod offers;
 mod questions;
 mod refusals;

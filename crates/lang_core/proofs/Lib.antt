@@ -22,6 +22,7 @@ pub mod SubtagCaseLemmas
 pub mod SubtagClassSums
 pub mod SubtagLemmas
 pub mod SubtagsRunsLemmas
+pub mod TagRefusedLemmas
 pub mod TagStates
 pub mod TagTableLemmas
 pub mod TagText

@@ -7,8 +7,9 @@
 //! - [`LangFault`] says why a text is refused, and where.
 //!
 //! Texts are stored in lower case and have at most 255 bytes. A parser finds every other fault
-//! before it allocates. Only parsers and copies allocate, and not for the text of a tag or a range
-//! of at most 16 bytes, which is stored inline: that is part of their contracts.
+//! before it allocates. Only parsers and copies allocate. The text of a tag or a range of at most
+//! 16 bytes is stored inline: that it is never refused for lack of memory is part of their
+//! contracts.
 //!
 //! ```text
 //! let tag = Tag::parse(alloc, b"de-Latn-DE")?;

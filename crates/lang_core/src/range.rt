@@ -147,7 +147,8 @@ impl Range {
     }
 
     /// Basic filtering (RFC 4647 section 3.3.1): the range is "*", or its subtags are the tag's
-    /// first ones. `de` matches `de-CH` and not `deu`; a range with an inner "*" matches nothing.
+    /// first ones. `de` matches `de-CH` and not `deu`; another range with a "*", such as `*-CH` or
+    /// `de-*-CH`, matches nothing.
     pub fn matches_basic(&self, tag: &Tag) -> bool
         ensures basic { IsTrue result ↔ Basic (pieces self.now) (pieces tag.now) }
         ensures test { result ≡ is_basic_match (pieces self.now) (pieces tag.now) }

@@ -20,7 +20,11 @@ impl<'a> Truncations<'a> {
     ghost use Rattle.lang_core.specs.Truncations.{truncations_left};
 
     /// The truncations of this text, itself first.
-    pub(crate) fn new(text: &'a str) -> Truncations<'a>
+    ///
+    /// ```text
+    /// Truncations::new("zh-hant-cn-x-private1")  zh-hant-cn-x-private1, zh-hant-cn, zh-hant, zh
+    /// ```
+    pub fn new(text: &'a str) -> Truncations<'a>
         ensures { truncations_left result ≡ candidates (pieces text.now) }
     {
         Truncations { next: Some(text) }

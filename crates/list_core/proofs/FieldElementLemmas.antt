@@ -5,7 +5,7 @@
 -- there is one way to cut an element. If the bytes up to there are no range, or those after it may
 -- not follow a range, no item fits the element; else one does.
 use Rattle.std.proofs.Common.{ℕ, ◌≡◌, ◌<◌, ◌⊎◌, inl, inr, List, [], ◌∷◌, ◌++◌, true, false, length}
-use Rattle.std.proofs.Common.{refl, sym, ◌∙◌, ap, subst, arith, append_assoc}
+use Rattle.std.proofs.Common.{refl, sym, ◌∙◌, ap, subst, arith, append_assoc, None}
 use Rattle.std.specs.List.{list_all}
 use Rattle.std.specs.Str.{str_to_ascii_lowercase}
 use Rattle.std.specs.Char.{to_ascii_lowercase}
@@ -174,7 +174,7 @@ pub has_item : (scheme : Scheme) (text token rest : List ℕ) (n : ℕ) → IsCu
     → IsRange (RangeGrammar scheme) (str_to_ascii_lowercase token)
     → IsTail (WeightGrammar scheme) rest n → HasStart scheme text
 has_item scheme text token rest n c r t = (
-  record { range = str_to_ascii_lowercase token; weight = n },
+  record { range = str_to_ascii_lowercase token; weight = n; listed = None },
   record {
     range = token;
     rest = rest;
@@ -183,6 +183,7 @@ has_item scheme text token rest n c r t = (
     range_is = refl;
     rest_ok =
         t;
+    unlisted = refl;
   },
 )
 
@@ -225,6 +226,7 @@ start_of_padded scheme piece item p =
                 p.after_ok;
             weight_ok = e.weight_ok;
           };
+      unlisted = e.unlisted;
     }
 
 padded_from : (scheme : Scheme) (piece text : List ℕ) (item : Item) → IsTrimmed piece text
@@ -251,6 +253,7 @@ padded_from scheme piece text item t s =
                 s.range_ok;
             range_is = s.range_is;
             weight_ok = tail.weight_ok;
+            unlisted = s.unlisted;
           };
     }
 

@@ -1,5 +1,6 @@
 -- A field has one list of items.
 use Rattle.std.proofs.Common.{ℕ, ◌≡◌, List, [], ◌∷◌, inl, inr, refl, sym, ◌∙◌, ap, subst}
+use Rattle.std.specs.Prelude.{Option}
 use Rattle.std.specs.Str.{str_to_ascii_lowercase}
 use Rattle.lang_core.specs.Text.{pieces_by}
 use Rattle.list_core.proofs.WeightLemmas.{one_tail}
@@ -13,11 +14,13 @@ use Rattle.list_core.specs.Field.{ArePieces, IsField}
 use Rattle.list_core.specs.declared.scheme.Scheme.{Scheme}
 use Rattle.list_core.specs.declared.field.Malformed.{Malformed}
 
--- Items of one range and one weight are one.
-pub item_is : (i j : Item) → i.range ≡ j.range → i.weight ≡ j.weight → i ≡ j
-item_is i j r w =
-    ap (λ (x : List ℕ). record { range = x; weight = i.weight }) r
-    ∙ ap (λ (n : ℕ). record { range = j.range; weight = n }) w
+-- Items of one range and one weight, for which the same texts are listed, are one.
+pub item_is : (i j : Item) → i.range ≡ j.range → i.weight ≡ j.weight → i.listed ≡ j.listed → i ≡ j
+item_is i j r w l =
+    ap (λ (x : List ℕ). record { range = x; weight = i.weight; listed = i.listed }) r
+    ∙ (ap (λ (n : ℕ). record { range = j.range; weight = n; listed = i.listed }) w
+    ∙ ap (λ (x : Option (List (List ℕ))). record { range = j.range; weight = j.weight; listed = x })
+    l)
 
 one_start : (scheme : Scheme) (text : List ℕ) (i j : Item) → IsStart scheme text i
     → IsStart scheme text j → i ≡ j
@@ -27,6 +30,7 @@ one_start scheme text i j s t =
     (one_tail scheme t.rest i.weight j.weight
     (subst (λ (x : List ℕ). IsTail (WeightGrammar scheme) x i.weight) same.1 s.rest_ok)
     t.rest_ok)
+    (s.unlisted ∙ sym t.unlisted)
 
 -- A piece gives at most one item.
 pub one_item : (scheme : Scheme) (piece : List ℕ) (i j : Item) → IsPadded scheme piece i

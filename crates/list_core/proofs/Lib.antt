@@ -4,6 +4,10 @@ pub mod DecidingLemmas
 pub mod DecidingMatchedLemmas
 pub mod DecidingMostSpecificLemmas
 pub mod DecidingNamedLemmas
+pub mod FallbacksChainLemmas
+pub mod FallbacksItemsLemmas
+pub mod FallbacksLawsLemmas
+pub mod FallbacksLemmas
 pub mod FieldElementLemmas
 pub mod FieldLemmas
 pub mod FieldLenientLemmas
@@ -17,6 +21,7 @@ pub mod FirstTriedPrefixes
 pub mod HashedRangesLemmas
 pub mod IndexLemmas
 pub mod IndexUnique
+pub mod ItemEqLemmas
 pub mod ItemLemmas
 pub mod LookupOrderKeyLemmas
 pub mod LookupOrderLemmas

@@ -22,7 +22,7 @@ use Rattle.list_core.specs.Weight.{is_blank}
 use Rattle.list_core.specs.declared.field.Malformed.{Malformed}
 use Rattle.list_core.specs.declared.field.Malformed.TheVariants.{Refused, PassedOver}
 use Rattle.list_core.specs.declared.fault.NegoFault.TheVariants.{FieldTooLong, FieldMalformed}
-use Rattle.list_core.specs.declared.fault.NegoFault.TheVariants.{NoMemory}
+use Rattle.list_core.specs.declared.fault.NegoFault.TheVariants.{FallbackMalformed, NoMemory}
 
 -- which ranges a field has: basic or extended ones (RFC 4647 sections 2.1 and 2.2)
 abbrev pub RangeGrammar : Scheme → List (List ℕ) → Type 0
@@ -35,7 +35,8 @@ abbrev pub WeightGrammar : Scheme → List ℕ → ℕ → Type 0
 WeightGrammar Basic = IsWeight
 WeightGrammar Extended = IsNoWeight
 
--- RFC 9110 section 12.5.4: language-range [ weight ]. The range alone has at most 255 bytes.
+-- RFC 9110 section 12.5.4: language-range [ weight ]. The range alone has at most 255 bytes. It
+-- lists no texts for lookup.
 pub record IsElement (scheme : Scheme) (text : List ℕ) (item : Item) : Type 0 where
   pub range : List ℕ
   pub weight : List ℕ
@@ -43,6 +44,7 @@ pub record IsElement (scheme : Scheme) (text : List ℕ) (item : Item) : Type 0 
   pub range_ok : IsRange (RangeGrammar scheme) (str_to_ascii_lowercase range)
   pub range_is : item.range ≡ str_to_ascii_lowercase range
   pub weight_ok : WeightGrammar scheme weight item.weight
+  pub unlisted : item.listed ≡ None
 
 -- an element between blanks
 pub record IsPadded (scheme : Scheme) (piece : List ℕ) (item : Item) : Type 0 where
@@ -64,6 +66,7 @@ pub record IsStart (scheme : Scheme) (text : List ℕ) (item : Item) : Type 0 wh
   pub range_ok : IsRange (RangeGrammar scheme) (str_to_ascii_lowercase range)
   pub range_is : item.range ≡ str_to_ascii_lowercase range
   pub rest_ok : IsTail (WeightGrammar scheme) rest item.weight
+  pub unlisted : item.listed ≡ None
 
 -- a text is a range and what may follow it, without blanks before it
 abbrev pub HasStart : Scheme → List ℕ → Type 0
@@ -167,6 +170,7 @@ RefusesField scheme malformed bytes FieldTooLong = 65535 < length bytes
 RefusesField scheme Refused bytes (FieldMalformed offset) =
     (length bytes ≤ 65535) × IsFirstMalformed scheme bytes offset
 RefusesField scheme PassedOver bytes (FieldMalformed offset) = ⊥
+RefusesField scheme malformed bytes (FallbackMalformed offset) = ⊥
 RefusesField scheme malformed bytes NoMemory =
     (length bytes ≤ 65535) × HasElement scheme malformed bytes
 

@@ -7,7 +7,9 @@ pub mod Weight
 pub mod Field
 pub mod Deciding
 pub mod Buckets
+pub mod Candidates
 pub mod HashedRanges
 pub mod Index
 pub mod LookupOrder
 pub mod FirstTried
+pub mod Fallbacks

@@ -1,19 +1,23 @@
-//! Why a field is refused.
+//! Why a field or a table of fallbacks is refused.
 ghost use Rattle.std.specs.Prelude.{◌≡◌};
 ghost use Rattle.list_core.specs.declared.fault.NegoFault.TheVariants.{NoMemory};
 
 use std::alloc::{AllocError, AllocFailed};
 use thiserror::Error;
 
-/// Why a field is no priority list.
+/// Why a field is no priority list, or a text no table of fallbacks.
 #[derive(Clone, Copy, Debug, PartialEq, Eq, Error)]
 pub enum NegoFault {
-    /// 8: the field has more than 65,535 bytes.
+    /// 8: the field or the table has more than 65,535 bytes.
     #[error("field is over 65535 bytes")]
     FieldTooLong,
     /// 9: the first malformed element begins at this byte of the field, blanks before it left out.
     #[error("field element at {offset}")]
     FieldMalformed { offset: usize },
+    /// 31: the first element of a table of fallbacks that is none, or has the left side of an
+    /// earlier one, begins at this byte.
+    #[error("fallback at {offset}")]
+    FallbackMalformed { offset: usize },
     /// 26: an allocation was refused.
     #[error("out of memory")]
     NoMemory,
@@ -29,6 +33,7 @@ impl NegoFault {
         match self {
             NegoFault::FieldTooLong => 8,
             NegoFault::FieldMalformed { .. } => 9,
+            NegoFault::FallbackMalformed { .. } => 31,
             NegoFault::NoMemory => 26,
         }
     }

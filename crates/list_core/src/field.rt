@@ -22,7 +22,7 @@ use lang_core::{LangFault, Range};
 use std::alloc::Global;
 
 /// The longest field that is read.
-const MAX_FIELD_LEN: usize = 65535;
+pub(crate) const MAX_FIELD_LEN: usize = 65535;
 
 /// The most bytes that a range has.
 const MAX_RANGE_LEN: usize = 255;
@@ -145,7 +145,7 @@ fn skip_commas(text: &[u8]) -> &[u8]
 }
 
 /// The place of the first comma.
-fn comma_at(text: &[u8]) -> Option<usize>
+pub(crate) fn comma_at(text: &[u8]) -> Option<usize>
     ensures { result ≡ position (λ b. b == 44) text.now }
 {
     text.iter().position(|b| *b == COMMA)

@@ -1,12 +1,15 @@
 //! An item of a priority list: a range with its weight.
-ghost use Rattle.std.specs.Prelude.{◌≡◌, ◌≤◌, ◌↔◌, IsTrue};
+ghost use Rattle.std.specs.Prelude.{◌≡◌, ◌≤◌, ◌↔◌, IsTrue, None, Some, map};
+ghost use Rattle.std.specs.Prelude.{string_bytes};
 ghost use Rattle.std.specs.Str.{bytes_eq};
 ghost use Rattle.list_core.specs.Deciding.{Matches};
 ghost use Rattle.lang_core.specs.Text.{pieces};
 ghost use Rattle.lang_core.specs.Matching.{Extended, specificity};
 ghost use Rattle.std.specs.Cmp as laws_of;
+ghost use Rattle.list_core.specs.Candidates.{candidates_left, candidates_of};
 ghost use Rattle.list_core.specs.Item.{first_byte, item_eq, item_equiv};
 
+use crate::candidates::Candidates;
 use crate::packed_tag::PackedTag;
 use crate::scheme::Scheme;
 use lang_core::{Range, Tag};
@@ -22,17 +25,24 @@ pub struct Item {
     specificity: usize,
     /// The first byte of the range.
     first: u8,
+    /// What lookup tries in place of the range and its truncations, if there is a table of
+    /// fallbacks.
+    listed: Option<Vec<String>>,
 }
 
 impl Model for Item {
-    ghost use Rattle.std.specs.Prelude.{◌≡◌, ◌≤◌};
+    ghost use Rattle.std.specs.Prelude.{◌≡◌, ◌≤◌, map, option_map, string_bytes};
     ghost use Rattle.lang_core.specs.Text.{pieces};
     ghost use Rattle.lang_core.specs.Matching.{specificity as specificity_of};
     ghost use Rattle.list_core.specs.Item.{Item, first_byte};
 
     ghost Value = { Item };
 
-    ghost view = { λ i. record { range = i.range; weight = i.weight } };
+    ghost view = { λ i. record {
+      range = i.range;
+      weight = i.weight;
+      listed = option_map (λ texts. map string_bytes texts.items) i.listed;
+    } };
 
     ghost invariant = { λ i. (i.weight ≤ 1000) × (i.specificity ≡ specificity_of (pieces i.range))
         × (i.first ≡ first_byte (pieces i.range)) };
@@ -44,6 +54,7 @@ impl Item {
         requires { weight ≤ 1000 }
         ensures range { result.range ≡ range }
         ensures weight { result.weight ≡ weight }
+        ensures listed { result.listed ≡ None }
     {
         let first = first_byte(range.as_str());
         let specificity = range.specificity();
@@ -52,6 +63,27 @@ impl Item {
             weight,
             specificity,
             first,
+            listed: None,
+        }
+    }
+
+    /// The item for which lookup tries these texts, in this order.
+    pub(crate) fn with_listed(self, texts: Vec<String>) -> Item
+        ensures { result ≡ record self { listed = Some (map string_bytes texts.items) } }
+    {
+        let Item {
+            range,
+            weight,
+            specificity,
+            first,
+            listed: _,
+        } = self;
+        Item {
+            range,
+            weight,
+            specificity,
+            first,
+            listed: Some(texts),
         }
     }
 
@@ -68,6 +100,17 @@ impl Item {
         ensures small { result ≤ 1000 }
     {
         self.weight
+    }
+
+    /// The texts that lookup tries for the item, in order: those of a table of fallbacks, or else
+    /// the lookup text of the range and its truncations (RFC 4647 section 3.4).
+    pub fn candidates(&self) -> Candidates<'_>
+        ensures { candidates_left result ≡ candidates_of self.now }
+    {
+        match &self.listed {
+            Some(texts) => Candidates::Listed(texts.as_slice()),
+            None => Candidates::Truncated(self.range.truncations()),
+        }
     }
 
     /// Whether the range has this text.
@@ -110,14 +153,16 @@ impl Item {
     }
 }
 
-/// Items are equal where their ranges and their weights are.
+/// Items are equal if their ranges and their weights are, and if lookup tries the same texts.
 impl PartialEq for Item {
     ghost eq = { item_eq };
 
     ghost laws = { laws_of.partial_equiv_from_equiv item_equiv };
 
     fn eq(&self, other: &Item) -> bool {
-        self.range.as_str() == other.range.as_str() && self.weight == other.weight
+        self.range.as_str() == other.range.as_str()
+            && self.weight == other.weight
+            && self.listed == other.listed
     }
 }
 

@@ -1,8 +1,10 @@
 //! Laws about the definitions alone: each function's contract is the law.
-ghost use Rattle.std.specs.Prelude.{◌≡◌, ◌↔◌, ℕ, List};
+ghost use Rattle.std.specs.Prelude.{◌≡◌, ◌↔◌, ◌∷◌, [], ℕ, All, List, None};
 ghost use Rattle.std.specs.Prelude.{Contains};
 ghost use Rattle.lang_core.specs.Text.{pieces, pieces_by};
+ghost use Rattle.list_core.specs.Fallbacks.{IsFieldBy, IsFirstBad, IsTable, chain_of};
 ghost use Rattle.list_core.specs.Item.{Item};
+ghost use Rattle.list_core.specs.declared.fallbacks.Fallback.{Fallback};
 ghost use Rattle.list_core.specs.Field.{IsPadded};
 ghost use Rattle.list_core.specs.declared.scheme.Scheme.{Scheme};
 ghost use Rattle.list_core.specs.LookupOrder.{IsOrder};
@@ -74,4 +76,39 @@ pub fn a_match_has_a_deciding_item()
     ensures { (scheme : Scheme) (items : List Item) (tag : List (List ℕ)) (item : Item)
         → Contains items item → Matches scheme (pieces item.range) tag
         → (place : ℕ) × IsDeciding scheme items tag place }
+{}
+
+/// A field lists no texts for lookup: what it tries is each range and its truncations (RFC 4647
+/// section 3.4).
+pub fn a_field_lists_no_texts()
+    ensures { (scheme : Scheme) (malformed : Malformed) (bytes : List ℕ) (items : List Item)
+        → IsField scheme malformed bytes items → All (λ i. i.listed ≡ None) items }
+{}
+
+/// By a table without elements a field gives just the items that it gives without a table.
+pub fn an_empty_table_changes_nothing()
+    ensures { (scheme : Scheme) (malformed : Malformed) (bytes : List ℕ) (items : List Item)
+        → IsFieldBy [] scheme malformed bytes items ↔ IsField scheme malformed bytes items }
+{}
+
+/// What lookup tries by a table begins with the text itself.
+pub fn a_chain_begins_with_its_text()
+    ensures { (table : List Fallback) (text : List ℕ)
+        → (rest : List (List ℕ)) × (chain_of table text ≡ text ∷ rest) }
+{}
+
+/// A text has one table.
+pub fn one_table()
+    ensures { (bytes : List ℕ) (a b : List Fallback) → IsTable bytes a → IsTable bytes b → a ≡ b }
+{}
+
+/// A text with a bad element is no table.
+pub fn a_bad_element_is_no_table()
+    ensures { (bytes : List ℕ) (offset : ℕ) (table : List Fallback)
+        → IsFirstBad bytes offset → ¬ IsTable bytes table }
+{}
+
+/// The first bad element of a text begins at one offset.
+pub fn one_bad_offset()
+    ensures { (bytes : List ℕ) (a b : ℕ) → IsFirstBad bytes a → IsFirstBad bytes b → a ≡ b }
 {}

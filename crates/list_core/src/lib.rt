@@ -15,7 +15,9 @@
 #![tactic(auto)]
 
 mod buckets;
+mod candidates;
 mod deciding;
+mod fallbacks;
 mod fault;
 mod field;
 mod fingerprint;
@@ -32,7 +34,9 @@ mod priority_list;
 mod scheme;
 mod weight;
 
+pub use candidates::Candidates;
 pub use deciding::{Decision, MostSpecific};
+pub use fallbacks::Fallbacks;
 pub use fault::NegoFault;
 pub use field::Malformed;
 pub use fingerprint::slot_of;

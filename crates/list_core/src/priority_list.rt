@@ -1,12 +1,13 @@
 //! Priority lists (RFC 4647 section 2.3), and how they are read from a field.
 ghost use Rattle.std.specs.Prelude.{◌≡◌, ◌≤◌, ◌<◌, ◌==◌, ℕ, false, length, All, MatchResult};
-ghost use Rattle.std.specs.Prelude.{IfOk, IfSome, List, MatchOption};
+ghost use Rattle.std.specs.Prelude.{IfOk, IfSome, List, MatchOption, map};
 ghost use Rattle.std.specs.List.{list_any};
 ghost use Rattle.std.specs.Cmp as laws_of;
 ghost use Rattle.std.specs.Cmp.Lexicographic.{pointwise, lists_equiv};
 ghost use Rattle.lang_core.specs.Text.{pieces};
 ghost use Rattle.list_core.specs.Item.{AllPositive, item_eq, item_equiv};
 ghost use Rattle.list_core.specs.Basics.{IsTheOne};
+ghost use Rattle.list_core.specs.Fallbacks.{IsFieldBy, with_fallbacks};
 ghost use Rattle.list_core.specs.Deciding.{IsDeciding, IsDecidedBy, IsDecidingWeight};
 ghost use Rattle.list_core.specs.Deciding.{DecidesLang, Matches, MatchesLang};
 ghost use Rattle.list_core.specs.FirstTried.{AreFirstsIfAny, IsFirstTried};
@@ -20,6 +21,7 @@ ghost use Rattle.list_core.specs.declared.field.Malformed.TheVariants.{Refused};
 ghost use Rattle.list_core.specs.declared.fault.NegoFault.TheVariants.{NoMemory};
 
 use crate::deciding::Decision;
+use crate::fallbacks::Fallbacks;
 use crate::fault::NegoFault;
 use crate::field::{Malformed, read_items};
 use crate::first_tried::{first_basic_match, first_extended_match, first_match, first_tried_of};
@@ -96,6 +98,25 @@ impl PriorityList {
             (RefusesField scheme malformed field.now) }
     {
         let items = read_items(alloc, scheme, malformed, field)?;
+        list_of(alloc, scheme, items)
+    }
+
+    /// The same for lookup by a table of fallbacks: what it tries for a range is the chain of the
+    /// range's lookup text, in place of that and its truncations. Nothing else differs, and by the
+    /// table without elements nothing does.
+    pub fn parse_with(
+        alloc: Global,
+        scheme: Scheme,
+        malformed: Malformed,
+        fallbacks: &Fallbacks,
+        field: &[u8],
+    ) -> Result<PriorityList, NegoFault>
+        ensures { MatchResult result (λ list. (length field.now ≤ 65535)
+            × IsFieldBy fallbacks.now scheme malformed field.now list)
+            (RefusesField scheme malformed field.now) }
+    {
+        let items = read_items(alloc, scheme, malformed, field)?;
+        let items = with_chains(alloc, fallbacks, items)?;
         list_of(alloc, scheme, items)
     }
 
@@ -249,6 +270,30 @@ impl fmt::Debug for PriorityList {
     fn fmt<W: fmt::Write>(&self, f: &mut fmt::Formatter<W>) -> fmt::Result {
         f.debug_list().entries(self.items()).finish()
     }
+}
+
+/// The items, for which lookup goes by a table.
+fn with_chains(
+    alloc: Global,
+    fallbacks: &Fallbacks,
+    items: Vec<Item>,
+) -> Result<Vec<Item>, AllocError>
+    ensures { MatchResult result
+        (λ listed. listed.items ≡ map (with_fallbacks fallbacks.now) items.items)
+        (λ _. 0 < length items.items) }
+{
+    if fallbacks.is_empty() {
+        return Ok(items);
+    }
+    if items.is_empty() {
+        return Ok(items);
+    }
+    let mut listed = Vec::new(alloc);
+    for item in items {
+        let chain = fallbacks.chain(alloc, item.range().lookup_text())?;
+        listed.push(item.with_listed(chain))?;
+    }
+    Ok(listed)
 }
 
 /// The list of the items, with its order and its index.

@@ -11,7 +11,8 @@ use Rattle.list_core.proofs.Basics.{all_passed, contains_first, contains_passed,
 use Rattle.nego_core.proofs.ChoosingOrderLemmas.{each_once}
 use Rattle.list_core.specs.Item.{Item}
 use Rattle.list_core.specs.LookupOrder.{is_tried, IsOrder}
-use Rattle.nego_core.specs.Choosing.{IsOpen, IsLookedUp, candidates_of, all_candidates}
+use Rattle.nego_core.specs.Choosing.{IsOpen, IsLookedUp, all_candidates}
+use Rattle.list_core.specs.Candidates.{candidates_of}
 
 -- an item of the list that is tried
 abbrev pub IsTriedOf : List Item → Item → Type 0

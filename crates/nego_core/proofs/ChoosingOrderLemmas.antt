@@ -5,7 +5,7 @@
 -- earlier one, and keys of one weight keep their written order, as their places ascend.
 use Rattle.std.proofs.Common.{ℕ, ◌≡◌, ◌≤◌, ◌<◌, ◌+◌, ◌-◌, ◌==◌, List, [], ◌∷◌, Some, Option, Bool}
 use Rattle.std.proofs.Common.{true, false, cond, inl, inr, get_or, sum_by, refl, sym, ◌∙◌, ap}
-use Rattle.std.proofs.Common.{subst, arith}
+use Rattle.std.proofs.Common.{subst, arith, None}
 use Rattle.std.specs.Prelude.{suc, All, AllPairs, IsSorted, IsPermutation, map, filter}
 use Rattle.std.specs.List.{filter_map, slice_get}
 use Rattle.std.specs.Ordering.{is_lt}
@@ -112,7 +112,7 @@ one_weight_sorted missing_weight keys same ascend = λ k d low lt.
 -- ---- the items of the keys
 
 unset : Item
-unset = record { range = []; weight = 0 }
+unset = record { range = []; weight = 0; listed = None }
 
 item_of : List Item → OrderKey → Item
 item_of items t = get_or items t.place unset

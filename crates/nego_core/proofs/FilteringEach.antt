@@ -12,20 +12,21 @@ use Rattle.list_core.proofs.Basics.{contains_first, contains_later, contains_map
 use Rattle.nego_core.proofs.FilteringLemmas.{one_key}
 use Rattle.list_core.specs.Item.{Item}
 use Rattle.list_core.specs.Deciding.{DecidesLang, IsDecidedBy}
-use Rattle.nego_core.specs.Filtering.{Key, IsKey, AreKeys, IsFiltered, IsPicked, pick_of}
+use Rattle.nego_core.specs.declared.filtering.FilterKey.{FilterKey}
+use Rattle.nego_core.specs.Filtering.{IsKey, AreKeys, IsFiltered, IsPicked, pick_of}
 use Rattle.nego_core.specs.declared.filtering.Pick.{Pick}
 use Rattle.list_core.specs.declared.scheme.Scheme.{Scheme}
 
 -- The key of a language of the list, at its place counted from a first one.
 pub record IsKeyFrom (scheme : Scheme) (items : List Item) (from : ℕ) (langs : List (List ℕ))
-    (key : Key) : Type 0 where
+    (key : FilterKey) : Type 0 where
   pub n : ℕ
   pub lang : List ℕ
   pub stands : slice_get langs n ≡ Some lang
   pub key_ok : IsKey scheme items lang (from + n) key
 
 key_later : (scheme : Scheme) (items : List Item) (from : ℕ) (l : List ℕ) (langs : List (List ℕ))
-    (key : Key) → IsKeyFrom scheme items (from + 1) langs key
+    (key : FilterKey) → IsKeyFrom scheme items (from + 1) langs key
     → IsKeyFrom scheme items from (l ∷ langs) key
 key_later scheme items from l langs key k =
     record {
@@ -38,7 +39,7 @@ key_later scheme items from l langs key k =
 
 -- Each key is that of a language of the list, at its place.
 pub keys_right : (scheme : Scheme) (items : List Item) (from : ℕ) (langs : List (List ℕ))
-    (keys : List Key) → AreKeys scheme items from langs keys
+    (keys : List FilterKey) → AreKeys scheme items from langs keys
     → All (IsKeyFrom scheme items from langs) keys
 keys_right scheme items from [] [] a = All-nil (IsKeyFrom scheme items from [])
 keys_right scheme items from [] (k ∷ keys) a = absurd a
@@ -64,7 +65,7 @@ keys_right scheme items from (l ∷ langs) (k ∷ keys) a = elim a [
 
 -- The keys contain the key of each language that has one.
 pub keys_all : (scheme : Scheme) (items : List Item) (from n : ℕ) (langs : List (List ℕ))
-    (keys : List Key) (lang : List ℕ) (key : Key) → AreKeys scheme items from langs keys
+    (keys : List FilterKey) (lang : List ℕ) (key : FilterKey) → AreKeys scheme items from langs keys
     → slice_get langs n ≡ Some lang → IsKey scheme items lang (from + n) key → Contains keys key
 keys_all scheme items from n [] keys lang key a s k = cc
 keys_all scheme items from zero (l ∷ langs) [] lang key a s k =
@@ -112,7 +113,7 @@ small_on scheme items (Some t) place weight small d =
     subst (λ (n : ℕ). n ≤ 1000) weight_is (subst (λ (i : Item). i.weight ≤ 1000) same le)
 
 picked : (scheme : Scheme) (items : List Item) (langs : List (List ℕ))
-    → All (λ i. i.weight ≤ 1000) items → (key : Key) → IsKeyFrom scheme items 0 langs key
+    → All (λ i. i.weight ≤ 1000) items → (key : FilterKey) → IsKeyFrom scheme items 0 langs key
     → IsPicked scheme items langs (pick_of key)
 picked scheme items langs small key k =
     let o = k.key_ok in
@@ -149,7 +150,7 @@ has_each scheme items langs picks small f pick = (
   (λ p.
       let low : pick.weight ≤ 1000 =
       small_on scheme items (tag_of p.lang) p.item pick.weight small p.decided in
-      let key : Key =
+      let key : FilterKey =
       record {
         missing_weight = 1000 - pick.weight;
         item = p.item;

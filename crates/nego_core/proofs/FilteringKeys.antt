@@ -3,35 +3,19 @@ use Rattle.std.proofs.Common.{ℕ, ◌≡◌, ◌+◌, ◌-◌, ◌<◌, ◌≤�
 use Rattle.std.proofs.Common.{List, [], ◌∷◌, ◌++◌, refl, sym, ◌∙◌, ap, subst, arith, length, get_or}
 use Rattle.std.proofs.Common.{add-one}
 use Rattle.std.specs.Prelude.{map, IsSorted, IsPermutation}
-use Rattle.std.proofs.lemmas.List.{length-map, get_or-map, map-append}
+use Rattle.std.proofs.lemmas.List.{length-map, get_or-map}
 use Rattle.nego_core.specs.Filtering.{filter_key_cmp, IsFiltered, IsKey, HasNoKey, AreKeys, pick_of}
-use Rattle.nego_core.specs.Filtering.{Key, key_cmp, key_of}
 use Rattle.list_core.specs.Deciding.{DecidesLang}
 use Rattle.list_core.specs.Item.{Item}
-use Rattle.std.proofs.lemmas.List.Sorted.{IsPermutation-map}
 use Rattle.nego_core.specs.declared.filtering.Pick.{Pick}
 use Rattle.list_core.specs.declared.scheme.Scheme.{Scheme}
 use Rattle.list_core.proofs.DecidingLemmas.{one_decision}
 use Rattle.nego_core.specs.declared.filtering.FilterKey.{FilterKey}
 
-key_in : (x : FilterKey) (xs : List FilterKey) (k : ℕ) (d : Key) → k < length xs
-    → get_or (map key_of xs) k d ≡ key_of (get_or xs k x)
-key_in x xs k d h = get_or-map key_of xs k x d h
-
--- filter_keys in order have keys in order
-pub sorted_keys : (xs : List FilterKey) → IsSorted filter_key_cmp xs
-    → IsSorted key_cmp (map key_of xs)
-sorted_keys [] h = λ k d low lt. absurd (omega arith)
-sorted_keys (x ∷ xs) h = λ k d low lt.
-    let size : length (map key_of (x ∷ xs)) ≡ length (x ∷ xs) = simp length-map in
-    let one = key_in x (x ∷ xs) k d (omega arith) in
-    let two = key_in x (x ∷ xs) (k + 1) d (omega arith) in
-    rw (one, two) (h k x low (omega arith))
-
 -- ---- the keys of the languages so far
 
 push_none : (scheme : Scheme) (items : List Item) (from : ℕ) (tags : List (List ℕ))
-    (keys : List Key) (tag : List ℕ)
+    (keys : List FilterKey) (tag : List ℕ)
     → AreKeys scheme items from tags keys → HasNoKey scheme items tag (from + length tags)
     → AreKeys scheme items from (tags ++ tag ∷ []) keys
 push_none scheme items from [] [] tag a h = (subst (HasNoKey scheme items tag) (omega arith) h, tt)
@@ -56,8 +40,8 @@ push_none scheme items from (t ∷ tags) (k ∷ keys) tag a h = elim a [
       )
 ]
 
-push_key : (scheme : Scheme) (items : List Item) (from : ℕ) (tags : List (List ℕ)) (keys : List Key)
-    (tag : List ℕ) (key : Key)
+push_key : (scheme : Scheme) (items : List Item) (from : ℕ) (tags : List (List ℕ))
+    (keys : List FilterKey) (tag : List ℕ) (key : FilterKey)
     → AreKeys scheme items from tags keys → IsKey scheme items tag (from + length tags) key
     → AreKeys scheme items from (tags ++ tag ∷ []) (keys ++ key ∷ [])
 push_key scheme items from [] [] tag key a h =
@@ -105,36 +89,34 @@ text_at text langs k l low e = ap text e ∙ sym (get_or-map text langs k l (tex
 pub none_next : (scheme : Scheme) (items : List Item) (tags : List (List ℕ)) (k : ℕ) (t : List ℕ)
     (filter_keys : List FilterKey)
     → k < length tags → t ≡ get_or tags k t
-    → AreKeys scheme items 0 (take k tags) (map key_of filter_keys) → HasNoKey scheme items t k
-    → AreKeys scheme items 0 (take (k + 1) tags) (map key_of filter_keys)
+    → AreKeys scheme items 0 (take k tags) filter_keys → HasNoKey scheme items t k
+    → AreKeys scheme items 0 (take (k + 1) tags) filter_keys
 none_next scheme items tags k t filter_keys low e a h =
     let size : length (take k tags) ≡ k = length-take-le k tags (omega arith) in
-    subst (λ (x : List (List ℕ)). AreKeys scheme items 0 x (map key_of filter_keys))
+    subst (λ (x : List (List ℕ)). AreKeys scheme items 0 x filter_keys)
     (sym (take_next tags k t low e))
-    (push_none scheme items 0 (take k tags) (map key_of filter_keys) t a
+    (push_none scheme items 0 (take k tags) filter_keys t a
     (subst (HasNoKey scheme items t) (omega arith) h))
 
 -- A language that has a key adds it to the keys of the languages so far.
 pub key_next : (scheme : Scheme) (items : List Item) (tags : List (List ℕ)) (k : ℕ) (t : List ℕ)
     (filter_keys : List FilterKey) (r : FilterKey)
     → k < length tags → t ≡ get_or tags k t
-    → AreKeys scheme items 0 (take k tags) (map key_of filter_keys)
-    → IsKey scheme items t k (key_of r)
-    → AreKeys scheme items 0 (take (k + 1) tags) (map key_of (filter_keys ++ r ∷ []))
+    → AreKeys scheme items 0 (take k tags) filter_keys
+    → IsKey scheme items t k r
+    → AreKeys scheme items 0 (take (k + 1) tags) (filter_keys ++ r ∷ [])
 key_next scheme items tags k t filter_keys r low e a h =
     let size : length (take k tags) ≡ k = length-take-le k tags (omega arith) in
-    subst (λ (x : List (List ℕ)). AreKeys scheme items 0 x (map key_of (filter_keys ++ r ∷ [])))
+    subst (λ (x : List (List ℕ)). AreKeys scheme items 0 x (filter_keys ++ r ∷ []))
     (sym (take_next tags k t low e))
-    (subst (AreKeys scheme items 0 (take k tags ++ t ∷ []))
-    (sym (map-append key_of filter_keys (r ∷ [])))
-    (push_key scheme items 0 (take k tags) (map key_of filter_keys) t (key_of r) a
-    (subst (λ (n : ℕ). IsKey scheme items t n (key_of r)) (omega arith) h)))
+    (push_key scheme items 0 (take k tags) filter_keys t r a
+    (subst (λ (n : ℕ). IsKey scheme items t n r) (omega arith) h))
 
 -- ---- the key of one language
 
 -- A language that an item decides with a positive weight has the key of that item and weight.
 pub has_key : (scheme : Scheme) (items : List Item) (lang : List ℕ) (place item weight : ℕ)
-    (key : Key) → DecidesLang scheme items lang item weight → 0 < weight
+    (key : FilterKey) → DecidesLang scheme items lang item weight → 0 < weight
     → key ≡ record { missing_weight = 1000 - weight; item = item; lang = lang; place = place }
     → IsKey scheme items lang place key
 has_key scheme items lang place item weight key d p e =
@@ -162,24 +144,18 @@ no_weight scheme items lang place item weight d z = λ key k.
     let p = k.positive in
     omega arith
 
-map_map : (xs : List FilterKey) → map (λ r. pick_of (key_of r)) xs ≡ map pick_of (map key_of xs)
-map_map [] = refl
-map_map (x ∷ xs) = ap (λ (ps : List Pick). pick_of (key_of x) ∷ ps) (map_map xs)
-
 -- The keys of all languages, sorted, give the filtered list.
 pub filtered : (scheme : Scheme) (items : List Item) (tags : List (List ℕ))
     (filter_keys sorted : List FilterKey) (picks : List Pick)
-    → AreKeys scheme items 0 tags (map key_of filter_keys) → IsPermutation filter_keys sorted
-    → IsSorted filter_key_cmp sorted → picks ≡ map (λ r. pick_of (key_of r)) sorted
+    → AreKeys scheme items 0 tags filter_keys → IsPermutation filter_keys sorted
+    → IsSorted filter_key_cmp sorted → picks ≡ map pick_of sorted
     → IsFiltered scheme items tags picks
 filtered scheme items tags filter_keys sorted picks a same ascending p =
     record {
-      all = map key_of filter_keys;
-      keys = map key_of sorted;
+      all = filter_keys;
+      keys = sorted;
       all_ok = a;
-      each_once =
-          IsPermutation-map key_of filter_keys sorted same;
-      ascending =
-          sorted_keys sorted ascending;
-      picks_are = p ∙ map_map sorted;
+      each_once = same;
+      ascending = ascending;
+      picks_are = p;
     }

@@ -13,38 +13,40 @@ use Rattle.std.proofs.lemmas.List.Sums.{sum_by-cons, sum_by_more_le, get_or-le-s
 use Rattle.list_core.proofs.Basics.{pairs_map}
 use Rattle.list_core.proofs.IndexUnique.{sum_none, next_is}
 use Rattle.list_core.specs.Item.{Item}
-use Rattle.nego_core.specs.Filtering.{Key, AreKeys, IsFiltered, pick_of}
+use Rattle.nego_core.specs.declared.filtering.FilterKey.{FilterKey}
+use Rattle.nego_core.specs.Filtering.{AreKeys, IsFiltered, pick_of}
 use Rattle.nego_core.specs.declared.filtering.Pick.{Pick}
 use Rattle.list_core.specs.declared.scheme.Scheme.{Scheme}
 
 -- ---- the keys of the languages, before they are sorted
 
 keys_behind : (scheme : Scheme) (items : List Item) (from : ℕ) (langs : List (List ℕ))
-    (keys : List Key) → AreKeys scheme items from langs keys → All (λ k. from ≤ k.place) keys
-keys_behind scheme items from [] [] a = All-nil (λ (k : Key). from ≤ k.place)
+    (keys : List FilterKey) → AreKeys scheme items from langs keys → All (λ k. from ≤ k.place) keys
+keys_behind scheme items from [] [] a = All-nil (λ (k : FilterKey). from ≤ k.place)
 keys_behind scheme items from [] (k ∷ keys) a = absurd a
-keys_behind scheme items from (l ∷ langs) [] a = All-nil (λ (k : Key). from ≤ k.place)
+keys_behind scheme items from (l ∷ langs) [] a = All-nil (λ (k : FilterKey). from ≤ k.place)
 keys_behind scheme items from (l ∷ langs) (k ∷ keys) a = elim a [
   | inl x ↦
-      All-weaker (λ (j : Key). from + 1 ≤ j.place) (λ (j : Key). from ≤ j.place)
+      All-weaker (λ (j : FilterKey). from + 1 ≤ j.place) (λ (j : FilterKey). from ≤ j.place)
       (λ j h. omega arith) (k ∷ keys) (keys_behind scheme items (from + 1) langs (k ∷ keys) x.1)
-  | inr x ↦ All-cons (λ (j : Key). from ≤ j.place) k keys (let p = x.0.place_is in omega arith)
-      (All-weaker (λ (j : Key). from + 1 ≤ j.place) (λ (j : Key). from ≤ j.place)
+  | inr x ↦ All-cons (λ (j : FilterKey). from ≤ j.place) k keys
+      (let p = x.0.place_is in omega arith)
+      (All-weaker (λ (j : FilterKey). from + 1 ≤ j.place) (λ (j : FilterKey). from ≤ j.place)
       (λ j h. omega arith) keys (keys_behind scheme items (from + 1) langs keys x.1))
 ]
 
-abbrev StandsBefore : Key → Key → Type 0
+abbrev StandsBefore : FilterKey → FilterKey → Type 0
 StandsBefore j k = j.place < k.place
 
 keys_ascend : (scheme : Scheme) (items : List Item) (from : ℕ) (langs : List (List ℕ))
-    (keys : List Key) → AreKeys scheme items from langs keys → AllPairs StandsBefore keys
+    (keys : List FilterKey) → AreKeys scheme items from langs keys → AllPairs StandsBefore keys
 keys_ascend scheme items from [] [] a = λ i j d lt low. absurd (omega arith)
 keys_ascend scheme items from [] (k ∷ keys) a = absurd a
 keys_ascend scheme items from (l ∷ langs) [] a = λ i j d lt low. absurd (omega arith)
 keys_ascend scheme items from (l ∷ langs) (k ∷ keys) a = elim a [
   | inl x ↦ keys_ascend scheme items (from + 1) langs (k ∷ keys) x.1
   | inr x ↦ AllPairs-cons StandsBefore k keys
-      (All-weaker (λ (j : Key). from + 1 ≤ j.place) (StandsBefore k)
+      (All-weaker (λ (j : FilterKey). from + 1 ≤ j.place) (StandsBefore k)
       (λ j h. let p = x.0.place_is in omega arith) keys
       (keys_behind scheme items (from + 1) langs keys x.1))
       (keys_ascend scheme items (from + 1) langs keys x.1)
@@ -52,17 +54,17 @@ keys_ascend scheme items from (l ∷ langs) (k ∷ keys) a = elim a [
 
 -- ---- how often a place is among keys
 
-one_at : ℕ → Key → ℕ
+one_at : ℕ → FilterKey → ℕ
 one_at n k = cond (k.place == n) 1 0
 
-pairs_tail : (k : Key) (keys : List Key) → AllPairs StandsBefore (k ∷ keys)
+pairs_tail : (k : FilterKey) (keys : List FilterKey) → AllPairs StandsBefore (k ∷ keys)
     → AllPairs StandsBefore keys
 pairs_tail k keys h =
     λ i j d lt low. rw (next_is k keys i d, next_is k keys j d) at
     (h (i + 1) (j + 1) d (omega arith) (omega arith))
 
-others_none : (n : ℕ) (k : Key) (keys : List Key) → AllPairs StandsBefore (k ∷ keys) → k.place ≡ n
-    → sum_by (one_at n) keys ≡ 0
+others_none : (n : ℕ) (k : FilterKey) (keys : List FilterKey)
+    → AllPairs StandsBefore (k ∷ keys) → k.place ≡ n → sum_by (one_at n) keys ≡ 0
 unfolding one_at
 others_none n k keys h e = sum_none (one_at n) keys (λ j d low.
     let before : k.place < (get_or (k ∷ keys) (j + 1) d).place =
@@ -70,11 +72,12 @@ others_none n k keys h e = sum_none (one_at n) keys (λ j d low.
     let same : get_or (k ∷ keys) (j + 1) d ≡ get_or keys j d = next_is k keys j d in
     other (get_or keys j d) n
     (let after : k.place < (get_or keys j d).place =
-    subst (λ (x : Key). k.place < x.place) same before in omega arith)) where
-      other : (j : Key) (n : ℕ) → n < j.place → one_at n j ≡ 0
+    subst (λ (x : FilterKey). k.place < x.place) same before in omega arith)) where
+      other : (j : FilterKey) (n : ℕ) → n < j.place → one_at n j ≡ 0
       other j n h = grind (arith, nat_tests)
 
-at_most_once : (n : ℕ) (keys : List Key) → AllPairs StandsBefore keys → sum_by (one_at n) keys ≤ 1
+at_most_once : (n : ℕ) (keys : List FilterKey) → AllPairs StandsBefore keys
+    → sum_by (one_at n) keys ≤ 1
 unfolding one_at
 at_most_once n [] h = omega arith
 at_most_once n (k ∷ keys) h =
@@ -88,7 +91,7 @@ at_most_once n (k ∷ keys) h =
           omega (arith, cons, one, rest))
     ]
 
-at_least_twice : (n i j : ℕ) (d : Key) (keys : List Key) → i < j → j < length keys
+at_least_twice : (n i j : ℕ) (d : FilterKey) (keys : List FilterKey) → i < j → j < length keys
     → (get_or keys i d).place ≡ n → (get_or keys j d).place ≡ n → 2 ≤ sum_by (one_at n) keys
 unfolding one_at
 at_least_twice n i j d keys lt low e f =
@@ -101,10 +104,10 @@ at_least_twice n i j d keys lt low e f =
     ap (one_at n) taken ∙ here (get_or keys i d) n e in
     let second : one_at n (get_or keys j d) ≡ 1 = here (get_or keys j d) n f in
     omega (arith, later, sooner, first, second) where
-      here : (k : Key) (n : ℕ) → k.place ≡ n → one_at n k ≡ 1
+      here : (k : FilterKey) (n : ℕ) → k.place ≡ n → one_at n k ≡ 1
       here k n e = grind (arith, nat_tests)
 
-kept_apart : (all keys : List Key) → IsPermutation all keys → AllPairs StandsBefore all
+kept_apart : (all keys : List FilterKey) → IsPermutation all keys → AllPairs StandsBefore all
     → AllPairs (λ j k. j.place ≢ k.place) keys
 kept_apart all keys p h = λ i j d lt low same.
     let n : ℕ = (get_or keys j d).place in

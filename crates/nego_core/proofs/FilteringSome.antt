@@ -7,15 +7,16 @@ use Rattle.list_core.proofs.Basics.{stands_at}
 use Rattle.nego_core.proofs.FilteringKeys.{text_within, text_at}
 use Rattle.nego_core.proofs.FilteringEach.{IsKeyFrom, keys_right}
 use Rattle.list_core.specs.Item.{Item}
-use Rattle.nego_core.specs.Filtering.{Key, IsKey, AreKeys, HasPick}
+use Rattle.nego_core.specs.declared.filtering.FilterKey.{FilterKey}
+use Rattle.nego_core.specs.Filtering.{IsKey, AreKeys, HasPick}
 use Rattle.list_core.specs.declared.fault.NegoFault.{NegoFault}
 use Rattle.list_core.specs.declared.fault.NegoFault.TheVariants.{NoMemory}
 use Rattle.list_core.specs.declared.scheme.Scheme.{Scheme}
 
 -- Something is picked where the language at a place has a key.
 pub pick_of_key : (scheme : Scheme) (items : List Item) (langs : List (List ℕ)) (lang : List ℕ)
-    (place : ℕ) (key : Key) → slice_get langs place ≡ Some lang → IsKey scheme items lang place key
-    → HasPick scheme items langs
+    (place : ℕ) (key : FilterKey) → slice_get langs place ≡ Some lang
+    → IsKey scheme items lang place key → HasPick scheme items langs
 pick_of_key scheme items langs lang place key stands k = (
   record { place = place; weight = k.weight },
   record {
@@ -29,8 +30,9 @@ pick_of_key scheme items langs lang place key stands k = (
 )
 
 -- Something is picked where the languages have at least one key.
-pub some_pick : (scheme : Scheme) (items : List Item) (langs : List (List ℕ)) (keys : List Key)
-    → AreKeys scheme items 0 langs keys → 0 < length keys → HasPick scheme items langs
+pub some_pick : (scheme : Scheme) (items : List Item) (langs : List (List ℕ))
+    (keys : List FilterKey) → AreKeys scheme items 0 langs keys → 0 < length keys
+    → HasPick scheme items langs
 some_pick scheme items langs [] a n = absurd (omega arith)
 some_pick scheme items langs (key ∷ keys) a n =
     let first =
@@ -41,7 +43,7 @@ some_pick scheme items langs (key ∷ keys) a n =
 
 -- Something is picked where one of the values whose texts are the languages has a key.
 pub pick_given : {X : Type 0} (scheme : Scheme) (items : List Item) (text : X → List ℕ)
-    (langs : List X) (place : ℕ) (l : X) (key : Key) → place < length langs
+    (langs : List X) (place : ℕ) (l : X) (key : FilterKey) → place < length langs
     → l ≡ get_or langs place l → IsKey scheme items (text l) place key
     → HasPick scheme items (map text langs)
 pick_given scheme items text langs place l key low e k =

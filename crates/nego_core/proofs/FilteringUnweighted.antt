@@ -13,7 +13,8 @@ use Rattle.list_core.proofs.DecidingMatchedLemmas.{a_match_decides}
 use Rattle.nego_core.proofs.FilteringEach.{IsKeyFrom, keys_right, keys_all}
 use Rattle.list_core.specs.Item.{Item}
 use Rattle.list_core.specs.Deciding.{IsDecidedBy}
-use Rattle.nego_core.specs.Filtering.{Key, IsKey, AreKeys, IsFiltered, pick_of}
+use Rattle.nego_core.specs.declared.filtering.FilterKey.{FilterKey}
+use Rattle.nego_core.specs.Filtering.{IsKey, AreKeys, IsFiltered, pick_of}
 use Rattle.nego_core.specs.ChoosingUnweighted.{MatchesSome, IsMatchedAt}
 use Rattle.list_core.specs.Item.{AllPositive}
 use Rattle.nego_core.specs.declared.filtering.Pick.{Pick}
@@ -34,7 +35,7 @@ decided_matches scheme items (Some t) place weight d = (
   d.0.fits,
 )
 
-key_matched : (scheme : Scheme) (items : List Item) (langs : List (List ℕ)) (key : Key)
+key_matched : (scheme : Scheme) (items : List Item) (langs : List (List ℕ)) (key : FilterKey)
     → IsKeyFrom scheme items 0 langs key → IsMatchedAt scheme items langs key.place
 key_matched scheme items langs key k =
     let o = k.key_ok in
@@ -66,15 +67,15 @@ matched_wanted scheme items (Some t) positive m =
           all_at (λ i. 0 < i.weight) items one.0 one.1.item positive one.1.stands;
     }
 
-matched_key : (scheme : Scheme) (items : List Item) (langs : List (List ℕ)) (keys : List Key)
+matched_key : (scheme : Scheme) (items : List Item) (langs : List (List ℕ)) (keys : List FilterKey)
     (place : ℕ) (lang : Option (List ℕ)) → AllPositive items → AreKeys scheme items 0 langs keys
     → slice_get langs place ≡ lang
     → IsSomeAnd lang (λ l. IsSomeAnd (tag_of l) (MatchesSome scheme items))
-    → (key : Key) × Contains keys key × (key.place ≡ place)
+    → (key : FilterKey) × Contains keys key × (key.place ≡ place)
 matched_key scheme items langs keys place None positive a stands m = absurd m
 matched_key scheme items langs keys place (Some lang) positive a stands m =
     let w = matched_wanted scheme items (tag_of lang) positive m in
-    let key : Key =
+    let key : FilterKey =
     record { missing_weight = 1000 - w.weight; item = w.item; lang = lang; place = place } in
     let is_key : IsKey scheme items lang (0 + place) key =
     record {
@@ -88,7 +89,8 @@ matched_key scheme items langs keys place (Some lang) positive a stands m =
     } in
     (key, keys_all scheme items 0 place langs keys lang key a stands is_key, refl)
 
-place_kept : (keys : List Key) → map (λ p. p.place) (map pick_of keys) ≡ map (λ k. k.place) keys
+place_kept : (keys : List FilterKey)
+    → map (λ p. p.place) (map pick_of keys) ≡ map (λ k. k.place) keys
 place_kept [] = refl
 place_kept (k ∷ keys) = ap (λ (places : List ℕ). k.place ∷ places) (place_kept keys)
 
@@ -97,11 +99,11 @@ pub all_matches : (scheme : Scheme) (items : List Item) (langs : List (List ℕ)
     → AllPositive items → IsFiltered scheme items langs picks → (place : ℕ)
     → Contains (map (λ p. p.place) picks) place ↔ IsMatchedAt scheme items langs place
 all_matches scheme items langs picks positive f place =
-    let places : map (λ (p : Pick). p.place) picks ≡ map (λ (k : Key). k.place) f.keys =
+    let places : map (λ (p : Pick). p.place) picks ≡ map (λ (k : FilterKey). k.place) f.keys =
     ap (map (λ (p : Pick). p.place)) f.picks_are ∙ place_kept f.keys in (
       (λ c.
           let key =
-          contains_from_map (λ (k : Key). k.place) f.keys place
+          contains_from_map (λ (k : FilterKey). k.place) f.keys place
           (subst (λ (xs : List ℕ). Contains xs place) places c) in
           let each : All (IsKeyFrom scheme items 0 langs) f.keys =
           All-permutation (IsKeyFrom scheme items 0 langs) f.all f.keys f.each_once
@@ -116,6 +118,6 @@ all_matches scheme items langs picks positive f place =
           let kept : Contains f.keys one.0 =
           Contains-permutation f.all f.keys one.0 f.each_once one.1 in
           subst (λ (xs : List ℕ). Contains xs place) (sym places)
-          (subst (Contains (map (λ (k : Key). k.place) f.keys)) one.2
-          (contains_map (λ (k : Key). k.place) f.keys one.0 kept))),
+          (subst (Contains (map (λ (k : FilterKey). k.place) f.keys)) one.2
+          (contains_map (λ (k : FilterKey). k.place) f.keys one.0 kept))),
     )

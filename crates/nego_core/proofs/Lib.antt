@@ -2,6 +2,7 @@ pub mod ChoosingCandidatesLemmas
 pub mod ChoosingFoundCandidates
 pub mod ChoosingLemmas
 pub mod ChoosingNothingRefused
+pub mod ChoosingOneLemmas
 pub mod ChoosingOrderLemmas
 pub mod ChoosingUnweightedLemmas
 pub mod FilteringEach

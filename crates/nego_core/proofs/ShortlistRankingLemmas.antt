@@ -42,7 +42,8 @@ use Rattle.nego_core.proofs.WideningLemmas.{least_first, less_lt, looked_up as l
 use Rattle.nego_core.specs.Filtering.{texts_of}
 use Rattle.list_core.specs.Item.{Item}
 use Rattle.nego_core.specs.LangSet.{is_among}
-use Rattle.nego_core.specs.Choosing.{MatchFirstOf, all_candidates, candidates_of}
+use Rattle.nego_core.specs.Choosing.{MatchFirstOf, all_candidates}
+use Rattle.list_core.specs.Candidates.{candidates_of}
 use Rattle.list_core.specs.Deciding.{NamedRefuse}
 use Rattle.list_core.specs.FirstTried.{item_tried}
 use Rattle.list_core.specs.LookupOrder.{AreOrderKeys}
@@ -50,7 +51,7 @@ use Rattle.nego_core.specs.Shortlist.{AreAmong, AreMatchedBy, AreMatchedLangs, I
 use Rattle.nego_core.specs.Shortlist.{IsOneOf}
 use Rattle.nego_core.specs.Shortlist.{IsRanking, matched_cmp}
 use Rattle.nego_core.specs.Unranked.{Spells, TakesFrom}
-use Rattle.nego_core.specs.WidenedChoice.{IsMatchedAt, IsMatchedFirst}
+use Rattle.nego_core.specs.WidenedChoice.{IsTriedAt, IsTriedFirst}
 use Rattle.nego_core.specs.Widening.{Ascends}
 use Rattle.list_core.specs.declared.lookup_order.OrderKey.{OrderKey}
 use Rattle.list_core.specs.declared.scheme.Scheme.{Scheme}
@@ -497,7 +498,7 @@ matched_next ms left at next m low e none h = record {
 -- where a language that is left and matched at the place is found
 found_in : (s : Scheme) (items : List Item) (langs left : List (List ℕ)) (ms : List MatchedLang)
     (at next : ℕ) (l : List ℕ) → AreMatchedLangs s items langs ms → IsAtMatched ms left at next
-    → Contains langs l → Contains left l → IsMatchedAt s items l at
+    → Contains langs l → Contains left l → IsTriedAt s items l at
     → (q : ℕ) × (d : MatchedLang) × (next ≤ q) × (q < length ms) × ((get_or ms q d).lang ≡ l)
     × ((get_or ms q d).tried ≡ at)
 found_in s items langs left ms at next l are h c there m =
@@ -518,7 +519,7 @@ found_in s items langs left ms at next l are h c there m =
 -- what matches a language at the place is the item of its key
 fits_at : (s : Scheme) (items : List Item) (keys : List OrderKey) (at : ℕ) (k : OrderKey) (i : Item)
     (l : List ℕ) → AreOrderKeys items keys → at < length keys → k ≡ get_or keys at k
-    → slice_get items k.place ≡ Some i → Fits s items i l → IsMatchedAt s items l at
+    → slice_get items k.place ≡ Some i → Fits s items i l → IsTriedAt s items l at
 fits_at s items keys at k i l o low e is fits =
     (keys, o, (i, tried_at items keys at k low e ∙ is, fits.0), fits.1)
 
@@ -532,8 +533,8 @@ pub matched_fits : (s : Scheme) (items : List Item) (langs left : List (List ℕ
     → (i : Item) × (slice_get items k.place ≡ Some i) × Fits s items i m.lang
     × ((l : List ℕ) → Contains left l → Fits s items i l → ¬ Ascends l m.lang)
 matched_fits s items langs left ms keys at next k m are up o low e h inside in_ms is same =
-    let own : IsMatchedAt s items m.lang m.tried =
-    subst (λ (x : MatchedLang). IsMatchedAt s items x.lang x.tried) (sym is)
+    let own : IsTriedAt s items m.lang m.tried =
+    subst (λ (x : MatchedLang). IsTriedAt s items x.lang x.tried) (sym is)
     (are.only next m in_ms) in
     let f = matched_item s items m.lang m.tried keys o own in
     let here : slice_get items k.place ≡ Some f.0 =
@@ -612,7 +613,7 @@ matched_later w items langs left ms at next are h later = record {
 -- A language that is matched is added.
 pub lang_matched : (s : Scheme) (items : List Item) (langs : List (List ℕ)) (k : ℕ) (x : List ℕ)
     (ms : List MatchedLang) (m : MatchedLang) → k < length langs → x ≡ get_or langs k x
-    → m.lang ≡ x → IsMatchedFirst s items x m.tried
+    → m.lang ≡ x → IsTriedFirst s items x m.tried
     → AreMatchedLangs s items (take k langs) ms
     → AreMatchedLangs s items (take (k + 1) langs) (ms ++ m ∷ [])
 lang_matched s items langs k x ms m low e same first h = record {
@@ -626,26 +627,26 @@ lang_matched s items langs k x ms m low e same first h = record {
             m,
             Contains-push ms m,
             same ∙ is,
-            first.1 n (subst (λ (y : List ℕ). IsMatchedAt s items y n) (sym is) f),
+            first.1 n (subst (λ (y : List ℕ). IsTriedAt s items y n) (sym is) f),
           )
           | inr none ↦ absurd (let none_low = none.1 in omega arith)
         ]
       ];
-  only = All-push (λ y. IsMatchedAt s items y.lang y.tried) ms m h.only
-      (subst (λ (y : List ℕ). IsMatchedAt s items y m.tried) (sym same) first.0);
+  only = All-push (λ y. IsTriedAt s items y.lang y.tried) ms m h.only
+      (subst (λ (y : List ℕ). IsTriedAt s items y m.tried) (sym same) first.0);
 }
 
 -- One that is not matched is not.
 pub lang_unmatched : (s : Scheme) (items : List Item) (langs : List (List ℕ)) (k : ℕ) (x : List ℕ)
     (ms : List MatchedLang) → k < length langs → x ≡ get_or langs k x
-    → ((n : ℕ) → ¬ IsMatchedAt s items x n) → AreMatchedLangs s items (take k langs) ms
+    → ((n : ℕ) → ¬ IsTriedAt s items x n) → AreMatchedLangs s items (take k langs) ms
     → AreMatchedLangs s items (take (k + 1) langs) ms
 lang_unmatched s items langs k x ms low e none h = record {
   each = λ l n c f. elim (Contains-append_cases (take k langs) (x ∷ []) l
       (subst (λ (ys : List (List ℕ)). Contains ys l) (take_next langs k x low e) c)) [
         | inl before ↦ h.each l n before f
         | inr here ↦ elim (contains_cases x l [] here) [
-          | inl is ↦ absurd (none n (subst (λ (y : List ℕ). IsMatchedAt s items y n) (sym is) f))
+          | inl is ↦ absurd (none n (subst (λ (y : List ℕ). IsTriedAt s items y n) (sym is) f))
           | inr nil ↦ absurd (let none_low = nil.1 in omega arith)
         ]
       ];
@@ -660,7 +661,7 @@ matched_sorted s items langs xs ys p up h = (
   record {
     each = λ l n c f. (let g = h.each l n c f in
         (g.0, Contains-permutation xs ys g.0 p g.1, g.2, g.3));
-    only = All-permutation (λ m. IsMatchedAt s items m.lang m.tried) xs ys p h.only;
+    only = All-permutation (λ m. IsTriedAt s items m.lang m.tried) xs ys p h.only;
   },
   up,
 )

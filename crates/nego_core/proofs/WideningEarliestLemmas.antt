@@ -24,7 +24,7 @@ use Rattle.nego_core.specs.Choosing.{MatchFirstOf, candidates_at}
 use Rattle.list_core.specs.Deciding.{NamedRefuse}
 use Rattle.list_core.specs.FirstTried.{IsFirstTried, item_tried}
 use Rattle.list_core.specs.LookupOrder.{AreOrderKeys}
-use Rattle.nego_core.specs.WidenedChoice.{IsFirstWidenedAt, IsMatchedAt, IsMatchedFirst}
+use Rattle.nego_core.specs.WidenedChoice.{IsFirstWidenedAt, IsTriedAt, IsTriedFirst}
 use Rattle.nego_core.specs.WidenedChoice.{IsNotBefore, MatchEarliest, is_earlier}
 use Rattle.nego_core.specs.Widening.{Ascends}
 use Rattle.list_core.specs.Deciding.{MatchesLang}
@@ -45,7 +45,7 @@ use Rattle.nego_core.proofs.WideningLemmas.{less_lt}
 
 -- The item at a place of the order that matches a language, by the keys that are known.
 pub matched_item : (s : Scheme) (items : List Item) (lang : List ℕ) (n : ℕ) (keys : List OrderKey)
-    → AreOrderKeys items keys → IsMatchedAt s items lang n
+    → AreOrderKeys items keys → IsTriedAt s items lang n
     → (i : Item) × (item_tried items keys n ≡ Some i) × MatchesLang s i lang
 matched_item s items lang n keys o m =
     let same : m.0 ≡ keys = one_keys items m.0 keys m.1 o in
@@ -54,7 +54,7 @@ matched_item s items lang n keys o m =
 -- What is first tried of what matches a language, which is not refused, matches it first.
 pub matched_first : (s : Scheme) (items : List Item) (lang : List ℕ) (n : ℕ) (keys : List OrderKey)
     → AreOrderKeys items keys → IsFirstTried (λ i. MatchesLang s i lang) items keys n
-    → n < length keys → ¬ NamedRefuse items (pieces lang) → IsMatchedFirst s items lang n
+    → n < length keys → ¬ NamedRefuse items (pieces lang) → IsTriedFirst s items lang n
 matched_first s items lang n keys o t low free = (
   (keys, o, t.fits low, free),
   λ m h. elim (cases_lt m n) [
@@ -68,7 +68,7 @@ matched_first s items lang n keys o t low free = (
 pub matched_nowhere : (s : Scheme) (items : List Item) (lang : List ℕ) (n : ℕ) (keys : List
     OrderKey)
     → AreOrderKeys items keys → IsFirstTried (λ i. MatchesLang s i lang) items keys n
-    → length keys ≤ n → (m : ℕ) → ¬ IsMatchedAt s items lang m
+    → length keys ≤ n → (m : ℕ) → ¬ IsTriedAt s items lang m
 matched_nowhere s items lang n keys o t past m h =
     let f = matched_item s items lang m keys o h in
     elim (cases_lt m n) [
@@ -82,26 +82,26 @@ matched_nowhere s items lang n keys o t past m h =
 
 -- A language that comes before the earliest so far takes its place.
 pub earliest_new : (s : Scheme) (items : List Item) (langs : List (List ℕ)) (best : Option Earliest)
-    (e : Earliest) → MatchEarliest s items langs best → IsMatchedFirst s items e.lang.now e.tried
+    (e : Earliest) → MatchEarliest s items langs best → IsTriedFirst s items e.lang.now e.tried
     → is_earlier e.tried e.lang.now best ≡ true → MatchEarliest s items (langs ++ e.lang.now ∷ [])
     (Some e)
 earliest_new s items langs None e h m b = (
   Contains-push langs e.lang.now,
   m.0,
-  All-push (λ l. (n : ℕ) → IsMatchedAt s items l n → IsNotBefore n l e.tried e.lang.now) langs
+  All-push (λ l. (n : ℕ) → IsTriedAt s items l n → IsNotBefore n l e.tried e.lang.now) langs
       e.lang.now
-      (All-weaker (λ l. (n : ℕ) → ¬ IsMatchedAt s items l n)
-      (λ l. (n : ℕ) → IsMatchedAt s items l n → IsNotBefore n l e.tried e.lang.now)
+      (All-weaker (λ l. (n : ℕ) → ¬ IsTriedAt s items l n)
+      (λ l. (n : ℕ) → IsTriedAt s items l n → IsNotBefore n l e.tried e.lang.now)
       (λ l none n f. absurd (none n f)) langs h)
       (λ n f. (m.1 n f, λ _. not_itself e.lang.now)),
 )
 earliest_new s items langs (Some o) e h m b = (
   Contains-push langs e.lang.now,
   m.0,
-  All-push (λ l. (n : ℕ) → IsMatchedAt s items l n → IsNotBefore n l e.tried e.lang.now) langs
+  All-push (λ l. (n : ℕ) → IsTriedAt s items l n → IsNotBefore n l e.tried e.lang.now) langs
       e.lang.now
-      (All-weaker (λ l. (n : ℕ) → IsMatchedAt s items l n → IsNotBefore n l o.tried o.lang.now)
-      (λ l. (n : ℕ) → IsMatchedAt s items l n → IsNotBefore n l e.tried e.lang.now)
+      (All-weaker (λ l. (n : ℕ) → IsTriedAt s items l n → IsNotBefore n l o.tried o.lang.now)
+      (λ l. (n : ℕ) → IsTriedAt s items l n → IsNotBefore n l e.tried e.lang.now)
       (λ l before n f. later l n (before n f)) langs h.2)
       (λ n f. (m.1 n f, λ _. not_itself e.lang.now)),
 ) where
@@ -133,13 +133,13 @@ earliest_new s items langs (Some o) e h m b = (
 -- A language that does not come before it changes nothing.
 pub earliest_kept : (s : Scheme) (items : List Item) (langs : List (List ℕ)) (best : Option
     Earliest)
-    (x : List ℕ) (tried : ℕ) → MatchEarliest s items langs best → IsMatchedFirst s items x tried
+    (x : List ℕ) (tried : ℕ) → MatchEarliest s items langs best → IsTriedFirst s items x tried
     → is_earlier tried x best ≡ false → MatchEarliest s items (langs ++ x ∷ []) best
 earliest_kept s items langs None x tried h m b = absurd (false_true (sym b))
 earliest_kept s items langs (Some o) x tried h m b = (
   Contains-append_left langs (x ∷ []) o.lang.now h.0,
   h.1,
-  All-push (λ l. (n : ℕ) → IsMatchedAt s items l n → IsNotBefore n l o.tried o.lang.now) langs x h.2
+  All-push (λ l. (n : ℕ) → IsTriedAt s items l n → IsNotBefore n l o.tried o.lang.now) langs x h.2
       (λ n f. elim (cases_Bool (nat_lt tried o.tried)) [
         | inl less ↦ absurd (false_true (sym (rw less at b)))
         | inr more ↦
@@ -159,14 +159,14 @@ earliest_kept s items langs (Some o) x tried h m b = (
 -- Nor does a language that is not matched.
 pub earliest_unmatched : (s : Scheme) (items : List Item) (langs : List (List ℕ)) (best : Option
     Earliest)
-    (x : List ℕ) → MatchEarliest s items langs best → ((n : ℕ) → ¬ IsMatchedAt s items x n)
+    (x : List ℕ) → MatchEarliest s items langs best → ((n : ℕ) → ¬ IsTriedAt s items x n)
     → MatchEarliest s items (langs ++ x ∷ []) best
 earliest_unmatched s items langs None x h none =
-    All-push (λ l. (n : ℕ) → ¬ IsMatchedAt s items l n) langs x h none
+    All-push (λ l. (n : ℕ) → ¬ IsTriedAt s items l n) langs x h none
 earliest_unmatched s items langs (Some o) x h none = (
   Contains-append_left langs (x ∷ []) o.lang.now h.0,
   h.1,
-  All-push (λ l. (n : ℕ) → IsMatchedAt s items l n → IsNotBefore n l o.tried o.lang.now) langs x h.2
+  All-push (λ l. (n : ℕ) → IsTriedAt s items l n → IsNotBefore n l o.tried o.lang.now) langs x h.2
       (λ n f. absurd (none n f)),
 )
 
@@ -216,7 +216,7 @@ earliest_at s items langs keys at k e low is o h same none =
     rw here (by_match s items langs f.0 e.lang.now (rw here at none) (
       h.0,
       (f.2, h.1.3),
-      All-weaker (λ l. (n : ℕ) → IsMatchedAt s items l n → IsNotBefore n l e.tried e.lang.now)
+      All-weaker (λ l. (n : ℕ) → IsTriedAt s items l n → IsNotBefore n l e.tried e.lang.now)
           (λ l. Fits s items f.0 l → ¬ Ascends l e.lang.now)
           (λ l before fits. (before e.tried (keys, o, (f.0, f.1, fits.0), fits.1)).1 refl) langs
           h.2,
@@ -234,10 +234,10 @@ none_at s items langs keys at k best low is o h from none = by_item (slice_get i
     unfit : (b : Option Earliest) → MatchEarliest s items langs b → IsFrom (at + 1) b → (i : Item)
         → item_tried items keys at ≡ Some i → MatchLeast (Fits s items i) langs None
     unfit None m from i e =
-        All-weaker (λ l. (n : ℕ) → ¬ IsMatchedAt s items l n) (λ l. ¬ Fits s items i l)
+        All-weaker (λ l. (n : ℕ) → ¬ IsTriedAt s items l n) (λ l. ¬ Fits s items i l)
         (λ l none fits. none at (keys, o, (i, e, fits.0), fits.1)) langs m
     unfit (Some x) m from i e =
-        All-weaker (λ l. (n : ℕ) → IsMatchedAt s items l n → IsNotBefore n l x.tried x.lang.now)
+        All-weaker (λ l. (n : ℕ) → IsTriedAt s items l n → IsNotBefore n l x.tried x.lang.now)
         (λ l. ¬ Fits s items i l)
         (λ l before fits.
         let late = (before at (keys, o, (i, e, fits.0), fits.1)).0 in let far = from in omega arith)

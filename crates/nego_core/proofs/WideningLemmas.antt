@@ -43,7 +43,8 @@ use Rattle.nego_core.proofs.WideningAscending.{ascending_is, ascending_of, ascen
 use Rattle.list_core.specs.Item.{Item}
 use Rattle.list_core.specs.Deciding.{Matches, NamedRefuse}
 use Rattle.nego_core.specs.LangSet.{is_among}
-use Rattle.nego_core.specs.Choosing.{candidates_of, all_candidates, IsOpen, IsLookedUp}
+use Rattle.nego_core.specs.Choosing.{all_candidates, IsOpen, IsLookedUp}
+use Rattle.list_core.specs.Candidates.{candidates_of}
 use Rattle.nego_core.specs.Choosing.{MatchFirstOf}
 use Rattle.list_core.specs.LookupOrder.{AreOrderKeys, IsOrder, is_tried}
 use Rattle.nego_core.specs.LookupPlaces.{least_place}

@@ -1,9 +1,9 @@
 use Rattle.std.specs.Prelude.{ℕ, ◌≡◌, Bool, IsTrue, List, [], ◌∷◌, ◌++◌, Option, Some, None, All}
+use Rattle.std.specs.Prelude.{⊤}
 use Rattle.std.specs.List.{flat_map, slice_get}
 use Rattle.lang_core.specs.Text.{pieces, joined}
-use Rattle.lang_core.specs.Matching.{as_basic}
-use Rattle.lang_core.specs.TruncationsCandidates.{candidates}
 use Rattle.list_core.specs.Item.{Item}
+use Rattle.list_core.specs.Candidates.{candidates_of}
 use Rattle.list_core.specs.Deciding.{NamedRefuse}
 use Rattle.list_core.specs.LookupOrder.{IsOrder}
 use Rattle.std.specs.Prelude.{IsSomeAnd}
@@ -11,10 +11,6 @@ use Rattle.list_core.specs.Deciding.{IsRefusedLang}
 use Rattle.list_core.specs.declared.scheme.Scheme.TheVariants as scheme
 use Rattle.nego_core.specs.declared.choosing.Choice.{Choice}
 use Rattle.nego_core.specs.declared.choosing.Choice.TheVariants.{Matched, Default, Nothing}
-
--- the candidates of a range, which is taken as a basic one (RFC 4647 sections 3.2 and 3.4)
-abbrev pub candidates_of : Item → List (List (List ℕ))
-candidates_of i = candidates (as_basic (pieces i.range))
 
 -- the candidates of all items, item by item in their order
 abbrev pub all_candidates : List Item → List (List (List ℕ))
@@ -67,3 +63,10 @@ IsChosen items held default (Matched text) = IsLookedUp items held (Some (pieces
 IsChosen items held default Default = IsLookedUp items held None × HasOpenDefault items held default
 IsChosen items held default Nothing =
     IsLookedUp items held None × ¬ HasOpenDefault items held default
+
+-- the same choice: of one text, of the default, or of nothing
+abbrev pub AreSameChoice : Choice → Choice → Type 0
+AreSameChoice (Matched text) (Matched other) = text.now ≡ other.now
+AreSameChoice Default Default = ⊤
+AreSameChoice Nothing Nothing = ⊤
+AreSameChoice _ _ = ⊥

@@ -12,39 +12,21 @@ use Rattle.list_core.specs.declared.scheme.Scheme.{Scheme}
 use Rattle.nego_core.specs.declared.filtering.FilterKey.{FilterKey}
 use Rattle.nego_core.specs.declared.filtering.Pick.{Pick}
 
--- what decides where a language comes in the answer
-pub record Key : Type 0 where
-  pub missing_weight : ℕ
-  pub item : ℕ
-  pub lang : List ℕ
-  pub place : ℕ
-
--- by missing weight, then the item's place, then the language's bytes, then place (project rule)
-abbrev pub key_cmp : Key → Key → Ordering
-key_cmp =
+-- the order of the answer: by missing weight, then the item's place, then the language's bytes,
+-- then place (project rule)
+abbrev pub filter_key_cmp : FilterKey → FilterKey → Ordering
+filter_key_cmp =
     then_cmp (on (λ k. k.missing_weight) nat_cmp)
     (then_cmp (on (λ k. k.item) nat_cmp)
     (then_cmp (on (λ k. k.lang) (slice_cmp nat_cmp)) (on (λ k. k.place) nat_cmp)))
 
--- the same of the keys that are sorted
-abbrev pub filter_key_cmp : FilterKey → FilterKey → Ordering
-filter_key_cmp =
-    then_cmp (on (λ r. r.missing_weight) nat_cmp)
-    (then_cmp (on (λ r. r.item) nat_cmp)
-    (then_cmp (on (λ r. r.lang) (slice_cmp nat_cmp)) (on (λ r. r.place) nat_cmp)))
-
--- the key that is sorted, as the definitions have it
-abbrev pub key_of : FilterKey → Key
-key_of r =
-    record { missing_weight = r.missing_weight; item = r.item; lang = r.lang; place = r.place }
-
 -- what is answered for a key: the language's place, and the weight that is not missing
-abbrev pub pick_of : Key → Pick
+abbrev pub pick_of : FilterKey → Pick
 pick_of k = record { place = k.place; weight = 1000 - k.missing_weight }
 
 -- the key of a language at a place: an item of positive weight decides it
 pub record IsKey (scheme : Scheme) (items : List Item) (lang : List ℕ) (place : ℕ)
-    (key : Key) : Type 0 where
+    (key : FilterKey) : Type 0 where
   pub weight : ℕ
   pub decided : DecidesLang scheme items lang key.item weight
   pub positive : 0 < weight
@@ -54,10 +36,10 @@ pub record IsKey (scheme : Scheme) (items : List Item) (lang : List ℕ) (place 
 
 -- no item of positive weight decides the language
 abbrev pub HasNoKey : Scheme → List Item → List ℕ → ℕ → Type 0
-HasNoKey scheme items lang place = (key : Key) → ¬ IsKey scheme items lang place key
+HasNoKey scheme items lang place = (key : FilterKey) → ¬ IsKey scheme items lang place key
 
 -- the keys of the languages from a place on, of each that has one
-abbrev pub AreKeys : Scheme → List Item → ℕ → List (List ℕ) → List Key → Type 0
+abbrev pub AreKeys : Scheme → List Item → ℕ → List (List ℕ) → List FilterKey → Type 0
 AreKeys scheme items place [] [] = Unit {0}
 AreKeys scheme items place [] (k ∷ keys) = ⊥
 AreKeys scheme items place (lang ∷ langs) [] =
@@ -70,11 +52,11 @@ AreKeys scheme items place (lang ∷ langs) (k ∷ keys) =
 -- order of their keys
 pub record IsFiltered (scheme : Scheme) (items : List Item) (langs : List (List ℕ))
     (picks : List Pick) : Type 0 where
-  pub all : List Key
-  pub keys : List Key
+  pub all : List FilterKey
+  pub keys : List FilterKey
   pub all_ok : AreKeys scheme items 0 langs all
   pub each_once : IsPermutation all keys
-  pub ascending : IsSorted key_cmp keys
+  pub ascending : IsSorted filter_key_cmp keys
   pub picks_are : picks ≡ map pick_of keys
 
 -- a language that an item of positive weight decides, by its place, and that weight

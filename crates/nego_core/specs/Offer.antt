@@ -37,12 +37,13 @@ is_offered items lang = is_offered_by items (tag_of lang)
 
 -- the items of the field "*"
 abbrev pub all_items : List Item
-all_items = record { range = 42 ∷ []; weight = 1000 } ∷ []
+all_items = record { range = 42 ∷ []; weight = 1000; listed = None } ∷ []
 
 -- the items of the field "*, x;q=0"
 abbrev pub public_items : List Item
-public_items = record { range = 42 ∷ []; weight = 1000 } ∷ record { range = 120 ∷ []; weight = 0 }
-    ∷ []
+public_items =
+    record { range = 42 ∷ []; weight = 1000; listed = None }
+    ∷ record { range = 120 ∷ []; weight = 0; listed = None } ∷ []
 
 -- the items by which is offered
 abbrev pub items_of : Offer → List Item

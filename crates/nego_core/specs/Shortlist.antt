@@ -1,12 +1,12 @@
 -- Priority lists cut to some languages.
-use Rattle.std.specs.Prelude.{ℕ, ◌≡◌, ◌≤◌, List, [], Option, All, Contains}
+use Rattle.std.specs.Prelude.{ℕ, ◌≡◌, ◌≤◌, List, [], Option, Some, None, All, Contains}
 use Rattle.std.specs.Prelude.{IsSomeAnd, IsSorted, IsTrue, length, option_map}
 use Rattle.lang_core.specs.Text.{pieces}
 use Rattle.list_core.specs.Item.{Item}
 use Rattle.nego_core.specs.LangSet.{is_among}
 use Rattle.nego_core.specs.Choosing.{IsLookedUp, MatchFirstOf}
 use Rattle.nego_core.specs.Choosing.{IsChosen}
-use Rattle.nego_core.specs.WidenedChoice.{IsChosenWidened, IsMatchedAt}
+use Rattle.nego_core.specs.WidenedChoice.{IsChosenWidened, IsTriedAt}
 use Rattle.nego_core.specs.Widening.{IsLookedUpWidened}
 use Rattle.std.specs.declared.cmp.Ordering.{Ordering}
 use Rattle.std.specs.Ordering.{nat_cmp, on, then_cmp}
@@ -18,26 +18,32 @@ use Rattle.nego_core.specs.declared.choosing.Choice.TheVariants.{Matched, Defaul
 use Rattle.nego_core.specs.declared.widening.Widening.{Widening}
 use Rattle.nego_core.specs.declared.widening.Widening.TheVariants.{Off, By}
 
--- a list, whether its ranges are widened, the languages that it is cut to, and how many of them are
--- tried
+-- a list, whether its ranges are widened, the languages that it is cut to, and those of them that a
+-- lookup asks for, one by one
 pub record Shortlist : Type 0 where
   pub items : List Item
   pub widening : Widening
   pub langs : List (List ℕ)
-  pub tried : ℕ
+  pub ranked : List (List ℕ)
 
--- the list cut to these languages
+-- the list cut to these languages, of which no more are asked for than there are
 pub record IsShortlist (items : List Item) (widening : Widening) (langs : List (List ℕ))
     (shortlist : Shortlist) : Type 0 where
   pub items_are : shortlist.items ≡ items
   pub widening_is : shortlist.widening ≡ widening
   pub langs_are : shortlist.langs ≡ langs
-  pub few : shortlist.tried ≤ length langs
+  pub few : length shortlist.ranked ≤ length langs
 
 -- lookup among the languages, widened or not, with the default where nothing is found
 abbrev pub IsChosenBy : Widening → List Item → List (List ℕ) → Option (List ℕ) → Choice → Type 0
 IsChosenBy Off items langs = IsChosen items (is_among langs)
 IsChosenBy (By scheme) items langs = IsChosenWidened scheme items langs
+
+-- the language that is chosen other than as the default, or none
+abbrev pub matched_text : Choice → Option (List ℕ)
+matched_text (Matched text) = Some text.now
+matched_text Default = None
+matched_text Nothing = None
 
 -- what is chosen is among the languages
 abbrev pub IsThere : List (List ℕ) → Option (List ℕ) → Choice → Type 0
@@ -74,9 +80,9 @@ matched_cmp = then_cmp (on (λ m. m.tried) nat_cmp) (on (λ m. m.lang) (slice_cm
 -- each language that the items of the order match, at the first place where one does
 pub record AreMatchedLangs (scheme : Scheme) (items : List Item) (langs : List (List ℕ))
     (matched : List MatchedLang) : Type 0 where
-  pub each : (lang : List ℕ) (n : ℕ) → Contains langs lang → IsMatchedAt scheme items lang n
+  pub each : (lang : List ℕ) (n : ℕ) → Contains langs lang → IsTriedAt scheme items lang n
       → (m : MatchedLang) × Contains matched m × (m.lang ≡ lang) × (m.tried ≤ n)
-  pub only : All (λ m. IsMatchedAt scheme items m.lang m.tried) matched
+  pub only : All (λ m. IsTriedAt scheme items m.lang m.tried) matched
 
 -- the same in ascending order, where lookup is widened, and else none
 abbrev pub AreMatchedBy : Widening → List Item → List (List ℕ) → List MatchedLang → Type 0

@@ -30,20 +30,19 @@ IsChosenWidened scheme items langs default Default =
 IsChosenWidened scheme items langs default Nothing =
     IsLookedUpWidened scheme items langs None × ¬ HasOpenDefault items (is_among langs) default
 
--- the item at a place of the order of lookup matches the language, which the items other than "*"
--- do
--- not refuse
-abbrev pub IsMatchedAt : Scheme → List Item → List ℕ → ℕ → Type 0
-IsMatchedAt scheme items lang n =
+-- the item that lookup tries at a place of its order matches the language, which the items other
+-- than "*" do not refuse
+abbrev pub IsTriedAt : Scheme → List Item → List ℕ → ℕ → Type 0
+IsTriedAt scheme items lang n =
     (keys : List OrderKey) × AreOrderKeys items keys
     × ((i : Item) × (item_tried items keys n ≡ Some i)
     × MatchesLang scheme i lang)
     × ¬ NamedRefuse items (pieces lang)
 
 -- the same of the first such place
-abbrev pub IsMatchedFirst : Scheme → List Item → List ℕ → ℕ → Type 0
-IsMatchedFirst scheme items lang n =
-    IsMatchedAt scheme items lang n × ((m : ℕ) → IsMatchedAt scheme items lang m → n ≤ m)
+abbrev pub IsTriedFirst : Scheme → List Item → List ℕ → ℕ → Type 0
+IsTriedFirst scheme items lang n =
+    IsTriedAt scheme items lang n × ((m : ℕ) → IsTriedAt scheme items lang m → n ≤ m)
 
 -- a language that is matched at one place does not come before one that is matched at another
 abbrev pub IsNotBefore : ℕ → List ℕ → ℕ → List ℕ → Type 0
@@ -52,10 +51,10 @@ IsNotBefore n lang tried x = (tried ≤ n) × (n ≡ tried → ¬ Ascends lang x
 -- the language that is matched first, the least by bytes where one item matches several, or none
 -- where none is matched
 abbrev pub MatchEarliest : Scheme → List Item → List (List ℕ) → Option Earliest → Type 0
-MatchEarliest scheme items langs None = All (λ l. (n : ℕ) → ¬ IsMatchedAt scheme items l n) langs
+MatchEarliest scheme items langs None = All (λ l. (n : ℕ) → ¬ IsTriedAt scheme items l n) langs
 MatchEarliest scheme items langs (Some e) =
-    Contains langs e.lang.now × IsMatchedAt scheme items e.lang.now e.tried
-    × All (λ l. (n : ℕ) → IsMatchedAt scheme items l n → IsNotBefore n l e.tried e.lang.now) langs
+    Contains langs e.lang.now × IsTriedAt scheme items e.lang.now e.tried
+    × All (λ l. (n : ℕ) → IsTriedAt scheme items l n → IsNotBefore n l e.tried e.lang.now) langs
 
 -- whether the language, matched at a place, comes before the earliest so far
 abbrev pub is_earlier : ℕ → List ℕ → Option Earliest → Bool

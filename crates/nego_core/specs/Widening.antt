@@ -9,7 +9,8 @@ use Rattle.lang_core.specs.Text.{pieces}
 use Rattle.list_core.specs.Item.{Item}
 use Rattle.list_core.specs.Deciding.{MatchesLang}
 use Rattle.list_core.specs.LookupOrder.{IsOrder}
-use Rattle.nego_core.specs.Choosing.{candidates_of, IsOpen, MatchFirstOf}
+use Rattle.nego_core.specs.Choosing.{IsOpen, MatchFirstOf}
+use Rattle.list_core.specs.Candidates.{candidates_of}
 use Rattle.nego_core.specs.LangSet.{is_among}
 use Rattle.nego_core.specs.LookupPlaces.{least_place, IsFound}
 use Rattle.nego_core.specs.Choosing.{IsOpenDefault, HasOpenDefault}

@@ -5,14 +5,13 @@ ghost use Rattle.list_core.specs.Deciding.{IsRefusedLang};
 ghost use Rattle.nego_core.specs.Choosing.{IsOpenDefault, HasOpenDefault, IsChosen};
 ghost use Rattle.list_core.specs.declared.scheme.Scheme.TheVariants as scheme;
 ghost use Rattle.lang_core.specs.Text.{pieces};
-ghost use Rattle.lang_core.specs.Matching.{as_basic};
-ghost use Rattle.lang_core.specs.TruncationsCandidates.{candidates};
+ghost use Rattle.list_core.specs.Candidates.{candidates_of};
 ghost use Rattle.list_core.specs.Deciding.{NamedRefuse};
 ghost use Rattle.nego_core.specs.Choosing.{IsOpen, MatchFirstOf, IsLookedUp, candidates_at};
 
 use crate::lang_set::Holds;
-use lang_core::{Lang, Range};
-use list_core::{PriorityList, Scheme};
+use lang_core::Lang;
+use list_core::{Item, PriorityList, Scheme};
 
 /// What lookup answers over a set of languages.
 #[derive(Clone, Copy, Debug, PartialEq, Eq)]
@@ -76,20 +75,19 @@ pub(crate) fn first_at<'a, H: Holds>(
     if place >= items.len() {
         return None;
     }
-    first_of(list, items[place].range(), held)
+    first_of(list, &items[place], held)
 }
 
-/// The first candidate of the range that is open.
+/// The first candidate of the item that is open.
 pub(crate) fn first_of<'a, H: Holds>(
     list: &PriorityList,
-    range: &'a Range,
+    item: &'a Item,
     held: &H,
 ) -> Option<&'a str>
-    ensures { MatchFirstOf (IsOpen list.now (H.held held.now))
-        (candidates (as_basic (pieces range.now)))
+    ensures { MatchFirstOf (IsOpen list.now (H.held held.now)) (candidates_of item.now)
         (option_map (λ text. pieces text.now) result) }
 {
-    for text in range.truncations() {
+    for text in item.candidates() {
         if is_open(list, held, text) {
             return Some(text);
         }

@@ -6,7 +6,7 @@ ghost use Rattle.std.specs.Cmp as laws_of;
 ghost use Rattle.std.specs.Cmp.Lexicographic.{pointwise, lists_equiv};
 ghost use Rattle.std.specs.Slice.Iter.{iter_rest};
 ghost use Rattle.nego_core.specs.Filtering.{pick_eq, pick_equiv, IsFiltered, IsKey, HasNoKey};
-ghost use Rattle.nego_core.specs.Filtering.{HasPick, AreKeys, key_of, pick_of, filter_key_cmp};
+ghost use Rattle.nego_core.specs.Filtering.{HasPick, AreKeys, pick_of, filter_key_cmp};
 ghost use Rattle.nego_core.specs.Filtering.{texts_of};
 ghost use Rattle.list_core.specs.declared.fault.NegoFault.TheVariants.{NoMemory};
 
@@ -182,7 +182,7 @@ fn filter_keys_of<'a, L: AsLang>(
     langs: &'a [L],
 ) -> Result<Vec<FilterKey<'a>>, AllocError>
     ensures { MatchResult result
-        (λ keys. AreKeys scheme list.now 0 (map L.text langs.now) (map key_of keys.items))
+        (λ keys. AreKeys scheme list.now 0 (map L.text langs.now) keys.items)
         (λ _. HasPick scheme list.now (map L.text langs.now)) }
 {
     let mut keys = Vec::new(alloc);
@@ -203,7 +203,7 @@ fn filter_key_of<'a>(
     place: usize,
 ) -> Option<FilterKey<'a>>
     ensures { MatchOption result (HasNoKey scheme list.now lang.now place)
-        (λ key. IsKey scheme list.now lang.now place (key_of key)) }
+        (λ key. IsKey scheme list.now lang.now place key) }
 {
     match list.decision_on(scheme, lang) {
         Some(found) if found.weight > 0 => Some(FilterKey {
@@ -226,7 +226,7 @@ fn sort_filter_keys(keys: &mut Vec<FilterKey>)
 
 /// The picks of the keys.
 fn picks_of(alloc: Global, keys: &[FilterKey]) -> Result<Vec<Pick>, AllocError>
-    ensures { IfOk result (λ picks. picks.items ≡ map (λ r. pick_of (key_of r)) keys.now) }
+    ensures { IfOk result (λ picks. picks.items ≡ map pick_of keys.now) }
 {
     keys.iter()
         .map(|key| Pick {

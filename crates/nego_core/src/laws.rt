@@ -8,7 +8,12 @@ ghost use Rattle.list_core.specs.Item.{Item};
 ghost use Rattle.list_core.specs.declared.scheme.Scheme.{Scheme};
 ghost use Rattle.nego_core.specs.Filtering.{IsFiltered, IsPicked};
 ghost use Rattle.list_core.specs.LookupOrder.{is_tried, IsOrder};
-ghost use Rattle.nego_core.specs.Choosing.{IsLookedUp, candidates_of};
+ghost use Rattle.list_core.specs.Candidates.{candidates_of};
+ghost use Rattle.nego_core.specs.Choosing.{AreSameChoice, IsChosen, IsLookedUp};
+ghost use Rattle.nego_core.specs.Shortlist.{IsChosenBy};
+ghost use Rattle.nego_core.specs.WidenedChoice.{IsChosenWidened};
+ghost use Rattle.nego_core.specs.declared.choosing.Choice.{Choice};
+ghost use Rattle.nego_core.specs.declared.widening.Widening.{Widening};
 ghost use Rattle.nego_core.specs.LookupPlaces.{IsFound};
 ghost use Rattle.nego_core.specs.LangSet.{is_among};
 ghost use Rattle.nego_core.specs.Widening.{IsFoundWidened, IsLookedUpWidened};
@@ -67,6 +72,19 @@ pub fn found_is_a_candidate()
 pub fn unweighted_lookup()
     ensures { (items : List Item) (held : List ℕ → Bool) (found : Option (List (List ℕ)))
         → AllUnweighted items → IsLookedUp items held found ↔ IsFirstHeld items held found }
+{}
+
+/// A choice with a default is one: of one text, of the default, or of nothing.
+pub fn one_choice()
+    ensures lookup { (items : List Item) (held : List ℕ → Bool) (default : Option (List ℕ))
+        (a b : Choice) → IsChosen items held default a → IsChosen items held default b
+        → AreSameChoice a b }
+    ensures widened { (scheme : Scheme) (items : List Item) (langs : List (List ℕ))
+        (default : Option (List ℕ)) (a b : Choice) → IsChosenWidened scheme items langs default a
+        → IsChosenWidened scheme items langs default b → AreSameChoice a b }
+    ensures shortlist { (widening : Widening) (items : List Item) (langs : List (List ℕ))
+        (default : Option (List ℕ)) (a b : Choice) → IsChosenBy widening items langs default a
+        → IsChosenBy widening items langs default b → AreSameChoice a b }
 {}
 
 /// Lookup over a slice of languages has one answer.

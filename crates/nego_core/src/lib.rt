@@ -10,6 +10,7 @@
 //! - [`lookup_widened`] also lets a range find the languages that it matches, as `en` finds en-us.
 //!   [`lookup_by`] does either, as its [`Widening`] says; [`choose_widened`] does so over any
 //!   [`Languages`] that can be searched.
+//! - [`Fallbacks`] is a table by which lookup tries other tags after a range, as `nb` after `no`.
 //! - [`Shortlist`] ranks some languages by a list, so that many lookups over these cost the length
 //!   of a long list once.
 //! - [`NegoFault`] says why a field is refused, and where.
@@ -42,7 +43,7 @@ mod widening;
 pub use choosing::{Choice, choose};
 pub use filtering::{Pick, Picks, filter, filter_lent};
 pub use lang_set::Holds;
-pub use list_core::{Item, Malformed, NegoFault, PriorityList, Scheme};
+pub use list_core::{Fallbacks, Item, Malformed, NegoFault, PriorityList, Scheme};
 pub use lookup_places::{Found, lookup};
 pub use offer::Offer;
 pub use shortlist::Shortlist;

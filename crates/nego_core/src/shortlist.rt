@@ -1,10 +1,12 @@
 //! Priority lists cut to some languages.
-ghost use Rattle.std.specs.Prelude.{◌≡◌, IfOk, IsPermutation, IsSorted, IsTrue, option_map};
+ghost use Rattle.std.specs.Prelude.{◌≡◌, IfOk, IsPermutation, IsSorted, IsTrue, length};
+ghost use Rattle.std.specs.Prelude.{option_map};
 ghost use Rattle.nego_core.specs.Filtering.{texts_of};
 ghost use Rattle.nego_core.specs.LangSet.{is_among};
 ghost use Rattle.nego_core.specs.Choosing.{MatchFirstOf};
 ghost use Rattle.nego_core.specs.Shortlist.{AreAmong, AreMatchedBy, AreMatchedLangs, IsChosenBy};
 ghost use Rattle.nego_core.specs.Shortlist.{IsOneOf, IsRanking, IsShortlist, IsThere, matched_cmp};
+ghost use Rattle.nego_core.specs.Shortlist.{matched_text};
 
 use crate::choosing::{Choice, has_open_default, is_open};
 use crate::unranked::Unranked;
@@ -31,7 +33,6 @@ pub struct Shortlist<'a> {
 }
 
 impl<'a> Model for Shortlist<'a> {
-    ghost use Rattle.std.specs.Prelude.{length};
     ghost use Rattle.nego_core.specs.Filtering.{texts_of};
     ghost use Rattle.nego_core.specs.Shortlist.{IsRanking, Shortlist};
 
@@ -41,7 +42,7 @@ impl<'a> Model for Shortlist<'a> {
       items = s.list.now;
       widening = s.widening;
       langs = texts_of s.langs.now;
-      tried = length (texts_of s.ranked.items);
+      ranked = texts_of s.ranked.items;
     } };
 
     ghost invariant = { λ s. IsRanking s.widening s.list.now (texts_of s.langs.now)
@@ -71,21 +72,24 @@ impl<'a> Shortlist<'a> {
         })
     }
 
-    /// How many languages a lookup may try: no more than the list is cut to.
+    /// How many languages a lookup asks for before the default: no more than the list is cut to.
     pub fn tried(&self) -> usize
-        ensures { result ≡ self.now.tried }
+        ensures { result ≡ length self.now.ranked }
     {
         self.ranked.len()
     }
 
     /// Lookup with a default, as [`choose`](crate::choose) does it by the whole list, or
     /// [`choose_widened`](crate::choose_widened), over languages that are all among those that the
-    /// list is cut to. What is answered is among the languages in any case. It takes no memory.
+    /// list is cut to. In any case what is answered is among the languages, and it is the first of
+    /// those that the list has ranked, of which there are [`Shortlist::tried`]. It takes no memory.
     pub fn choose<'b, L: Languages>(&'b self, langs: &'b L, default: Option<&Lang>) -> Choice<'b>
         ensures chosen { AreAmong (L.texts langs.now) self.now.langs
             → IsChosenBy self.now.widening self.now.items (L.texts langs.now)
             (option_map (λ l. l.now) default.entry) result }
         ensures there { IsThere (L.texts langs.now) (option_map (λ l. l.now) default.entry) result }
+        ensures first { MatchFirstOf (IsOneOf (L.texts langs.now)) self.now.ranked
+            (matched_text result) }
     {
         match first_among(&self.ranked, langs) {
             Some(lang) => Choice::Matched(lang.as_str()),
@@ -141,7 +145,7 @@ fn rank<'a>(
     for (at, key) in keys.iter().enumerate() {
         match items.get(key.place) {
             Some(item) => {
-                for text in item.range().truncations() {
+                for text in item.candidates() {
                     if is_open(list, &left, text) {
                         match left.take(text) {
                             Some(lang) => ranked.push(lang)?,

@@ -2,7 +2,7 @@
 ghost use Rattle.std.specs.Prelude.{◌≡◌, ◌++◌, ◌∷◌, [], ℕ, List, MatchOption, option_map};
 ghost use Rattle.lang_core.specs.Text.{pieces};
 ghost use Rattle.nego_core.specs.LangSet.{is_among};
-ghost use Rattle.nego_core.specs.WidenedChoice.{IsChosenWidened, IsMatchedAt, IsMatchedFirst};
+ghost use Rattle.nego_core.specs.WidenedChoice.{IsChosenWidened, IsTriedAt, IsTriedFirst};
 ghost use Rattle.nego_core.specs.WidenedChoice.{MatchEarliest, is_earlier};
 ghost use Rattle.nego_core.specs.Widening.{IsLookedUpWidened};
 
@@ -76,8 +76,8 @@ impl<'a> WidenedRanges<'a> {
     /// items other than "*" refuse it.
     pub(crate) fn first_tried(&self, lang: &Lang) -> Option<usize>
         ensures { let scheme = self.now.scheme in let items = self.now.list.now in
-            MatchOption result ((n : ℕ) → ¬ IsMatchedAt scheme items lang.now n)
-            (IsMatchedFirst scheme items lang.now) }
+            MatchOption result ((n : ℕ) → ¬ IsTriedAt scheme items lang.now n)
+            (IsTriedFirst scheme items lang.now) }
     {
         let tried = self.list.first_tried(self.scheme, lang);
         if tried < self.list.order().len() && !named_refuse(self.list, lang.as_str()) {

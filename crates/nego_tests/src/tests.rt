@@ -1,6 +1,7 @@
 //! Examples from the standards and from real clients, and what no contract says.
 mod choosing;
 mod deciding;
+mod fallbacks;
 mod faults;
 mod fields;
 mod filtering;

@@ -23,7 +23,7 @@ use Rattle.row_docs.specs.EntriesValues.{Row}
 use Rattle.row_docs.specs.declared.version.Version.{Version}
 use Rattle.catalogue.proofs.CatalogueAboveLemmas.{IsMap-behind}
 use Rattle.catalogue.proofs.PlacesLastKeysLemmas.{above_last, above_none}
-use Rattle.json_docs.proofs.FaultChecksLemmas.{AllPass-both, FirstFails-rest}
+use Rattle.json_docs.proofs.FaultChecksLemmas.{AllPass-both, FirstFails-front, FirstFails-rest}
 use Rattle.lang_core.proofs.Basics.{less_of}
 
 at_end : (xs : List Data) (x : Data) → slice_get (xs ++ x ∷ []) (length xs) ≡ Some x
@@ -161,3 +161,11 @@ pub key_of_stamp : (o : Option Row) (e : EntryKey × Stamp) → option_map stamp
     → key_of (unwrap_or o no_row) ≡ e.0
 key_of_stamp None e is = cc
 key_of_stamp (Some p) e is = ap (λ (o : Option (EntryKey × Stamp)). (unwrap_or o e).0) is
+
+-- a row that fails one of its own tests fails, whatever other test follows
+pub fails_alone : (own : ℕ → Data → List Check) (before : List Data) (k : ℕ) (d : Data)
+    (more : List Check) (e : DocCause) → length before ≡ k → FirstFails (own k d) e
+    → FirstFails (own (length before) d ++ more) e
+fails_alone own before k d more e at fails =
+    FirstFails-front (own (length before) d) more e
+    (subst (λ n. FirstFails (own n d) e) (sym at) fails)

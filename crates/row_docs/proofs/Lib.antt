@@ -1,3 +1,7 @@
+pub mod CutsFieldsLemmas
+pub mod CutsLemmas
+pub mod CutsReadLemmas
+pub mod CutsRowsLemmas
 pub mod EntriesLowerLemmas
 pub mod EntriesWrittenRows
 pub mod EntriesWrittenTexts

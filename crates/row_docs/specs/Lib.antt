@@ -1,3 +1,5 @@
+pub mod Cuts
+pub mod CutsSeen
 pub mod Entries
 pub mod EntriesValid
 pub mod EntriesValues

@@ -1,20 +1,21 @@
 //! The rows of an array, taken one after another as they are read.
 ghost use Rattle.std.specs.Prelude.{◌≡◌, ◌≢◌, ◌∷◌, [], ◌++◌, ◌<◌, ◌+◌, ◌≤◌, ◌^◌, ℕ, List, None};
 ghost use Rattle.std.specs.Prelude.{true, length, MatchResult, OnOk, IfErr};
-ghost use Rattle.json.specs.Json.{value};
-ghost use Rattle.json.specs.Value.{value_view};
 ghost use Rattle.serde_json.specs.Data.{Data, Items};
 ghost use Rattle.json_docs.specs.ScanningArrays.{ReadsItems, ReadsNoItems, TakesNext, TakesRows};
 ghost use Rattle.json_docs.specs.FaultChecks.{AllPass, Check, FirstFails, OrMemory};
 ghost use Rattle.json_docs.specs.Numbers.{are_in_range};
-ghost use Rattle.json_docs.specs.ScanningReads.{IsRead, Reads, seen};
+ghost use Rattle.json_docs.specs.ObjectMembersRead.{ReadsNone};
+ghost use Rattle.json_docs.specs.ScanningReads.{Reads};
 ghost use Rattle.json_docs.specs.Parts.{list_of};
 ghost use Rattle.json_docs.specs.declared.fault.DocCause.TheVariants.{NoMemory, NotJson};
+ghost use Rattle.row_docs.specs.CutsSeen.{IsRow};
 ghost use Rattle.row_docs.specs.declared.version.Version.{Version};
 
+use crate::cuts::{Cut, ROW_LEVELS, next_cut};
 use crate::version::Version;
-use json::{Reader, Value};
-use json_docs::{DocCause, next_value};
+use json::Reader;
+use json_docs::DocCause;
 use std::alloc::Global;
 
 /// Takes the rows of a document in their order, each only where it passes the tests of a row, and
@@ -36,18 +37,19 @@ pub trait Rows<C> {
         alloc: Global,
         version: Version,
         place: usize,
-        row: &Value<'_>,
+        row: &Cut<'_>,
     ) -> Result<(), DocCause>
-        requires read { IsRead (value_view row.now) }
+        requires read { (d : Data) × IsRow d row.now }
         requires held { (start : C) × (before : List Data) × (length before ≡ place)
             × Holds start version self.old before }
-        ensures ok { OnOk result ((start : C) (before : List Data) → length before ≡ place
-            → Holds start version self.old before
-            → AllPass (Checks version before (seen row.now))
-            × Holds start version self.new (before ++ seen row.now ∷ [])) }
-        ensures err { IfErr result (OrMemory NoMemory (λ e. (start : C) (before : List Data)
+        ensures ok { OnOk result ((d : Data) (start : C) (before : List Data) → IsRow d row.now
             → length before ≡ place → Holds start version self.old before
-            → FirstFails (Checks version before (seen row.now)) e)) };
+            → AllPass (Checks version before d)
+            × Holds start version self.new (before ++ d ∷ [])) }
+        ensures err { IfErr result (OrMemory NoMemory (λ e. (d : Data) (start : C)
+            (before : List Data) → IsRow d row.now → length before ≡ place
+            → Holds start version self.old before
+            → FirstFails (Checks version before d) e)) };
 }
 
 /// Reads an array after its `[`. Returns the first refused row, if any, but reads on: a syntax
@@ -62,6 +64,7 @@ pub(crate) fn read_rows<C, R: Rows<C>>(
 ) -> Result<Option<DocCause>, DocCause>
     requires numbers { are_in_range reader.old ≡ true }
     requires places { length reader.old < 2 ^ 64 }
+    requires deep { 3 < depth }
     ensures read { MatchResult result
         (λ refusal. (ds : Items) × ReadsItems depth reader.old ds reader.new
         × TakesRows (R.Checks version) (R.Holds start.now version) [] rows.new refusal
@@ -94,6 +97,8 @@ fn read_row<C, R: Rows<C>>(
     refusal: Option<DocCause>,
 ) -> Result<Option<DocCause>, DocCause>
     requires numbers { are_in_range reader.old ≡ true }
+    requires places { length reader.old < 2 ^ 64 }
+    requires deep { 3 < depth }
     requires held { refusal ≡ None → (start : C) × (before : List Data) × (length before ≡ place)
         × R.Holds start version rows.old before }
     ensures read { MatchResult result
@@ -101,36 +106,60 @@ fn read_row<C, R: Rows<C>>(
         × ((start : C) (before : List Data) → length before ≡ place
         → TakesNext (R.Checks version) (R.Holds start version) before refusal rows.old rows.new
         next d))
-        (OrMemory NoMemory (λ e. (e ≡ NotJson) × (value depth reader.old ≡ None))) }
+        (OrMemory NoMemory (ReadsNone depth reader.old)) }
     ensures left { OnOk result (are_in_range reader.new ≡ true) }
     ensures shorter { OnOk result (length reader.new < length reader.old) }
 {
-    let row = next_value(alloc, reader, depth)?;
-    take_row::<C, R>(alloc, version, place, &row, rows, refusal)
+    match refusal {
+        Some(cause) => pass_row(reader, depth, cause),
+        None => take_row::<C, R>(alloc, reader, depth, version, place, rows),
+    }
 }
 
-/// Takes a row, unless one was refused before it.
+/// Skips a row after one that was refused.
+fn pass_row(
+    reader: &mut Reader<'_>,
+    depth: usize,
+    refusal: DocCause,
+) -> Result<Option<DocCause>, DocCause>
+    requires { are_in_range reader.old ≡ true }
+    ensures read { MatchResult result
+        (λ next. (d : Data) × Reads depth reader.old d reader.new × (next ≡ Some refusal))
+        (ReadsNone depth reader.old) }
+    ensures left { OnOk result (are_in_range reader.new ≡ true) }
+    ensures shorter { OnOk result (length reader.new < length reader.old) }
+{
+    match reader.skip_value(depth) {
+        Ok(()) => Ok(Some(refusal)),
+        Err(_) => Err(DocCause::NotJson),
+    }
+}
+
+/// Reads a row and takes it.
 fn take_row<C, R: Rows<C>>(
     alloc: Global,
+    reader: &mut Reader<'_>,
+    depth: usize,
     version: Version,
     place: usize,
-    row: &Value<'_>,
     rows: &mut R,
-    refusal: Option<DocCause>,
 ) -> Result<Option<DocCause>, DocCause>
-    requires read { IsRead (value_view row.now) }
-    requires held { refusal ≡ None → (start : C) × (before : List Data) × (length before ≡ place)
+    requires numbers { are_in_range reader.old ≡ true }
+    requires places { length reader.old < 2 ^ 64 }
+    requires deep { 3 < depth }
+    requires held { (start : C) × (before : List Data) × (length before ≡ place)
         × R.Holds start version rows.old before }
-    ensures { MatchResult result
-        (λ next. (start : C) (before : List Data) → length before ≡ place
-        → TakesNext (R.Checks version) (R.Holds start version) before refusal rows.old rows.new
-        next (seen row.now))
-        (λ e. e ≡ NoMemory) }
+    ensures read { MatchResult result
+        (λ refusal. (d : Data) × Reads depth reader.old d reader.new
+        × ((start : C) (before : List Data) → length before ≡ place
+        → R.Holds start version rows.old before
+        → TakesRows (R.Checks version) (R.Holds start version) before rows.new refusal (d ∷ [])))
+        (OrMemory NoMemory (ReadsNone depth reader.old)) }
+    ensures left { OnOk result (are_in_range reader.new ≡ true) }
+    ensures shorter { OnOk result (length reader.new < length reader.old) }
 {
-    match refusal {
-        Some(cause) => Ok(Some(cause)),
-        None => take_or_refuse::<C, R>(alloc, version, place, row, rows),
-    }
+    let row = next_cut(alloc, reader, depth, ROW_LEVELS)?;
+    take_or_refuse::<C, R>(alloc, version, place, &row, rows)
 }
 
 /// Takes a row, or says why it is refused; out of memory is no refusal.
@@ -138,17 +167,16 @@ fn take_or_refuse<C, R: Rows<C>>(
     alloc: Global,
     version: Version,
     place: usize,
-    row: &Value<'_>,
+    row: &Cut<'_>,
     rows: &mut R,
 ) -> Result<Option<DocCause>, DocCause>
-    requires read { IsRead (value_view row.now) }
+    requires read { (d : Data) × IsRow d row.now }
     requires held { (start : C) × (before : List Data) × (length before ≡ place)
         × R.Holds start version rows.old before }
     ensures { MatchResult result
-        (λ refusal. (start : C) (before : List Data) → length before ≡ place
-        → R.Holds start version rows.old before
-        → TakesRows (R.Checks version) (R.Holds start version) before rows.new refusal
-        (seen row.now ∷ []))
+        (λ refusal. (d : Data) (start : C) (before : List Data) → IsRow d row.now
+        → length before ≡ place → R.Holds start version rows.old before
+        → TakesRows (R.Checks version) (R.Holds start version) before rows.new refusal (d ∷ []))
         (λ e. e ≡ NoMemory) }
 {
     match rows.take(alloc, version, place, row) {

@@ -16,11 +16,12 @@ ghost use Rattle.row_docs.specs.Headers.{IsSubject};
 ghost use Rattle.row_docs.specs.Kinds.{kind_text, member_of};
 
 use crate::arrays::{Rows, read_rows};
+use crate::cuts::{next_cut, pass_members};
 use crate::kind::{Kind, Member};
 use crate::version::Version;
 use cell_core::SiteName;
 use json::{Reader, Token, Value};
-use json_docs::{DocCause, MAX_DEPTH, is_scalar, next_name, next_value, text_of, u64_of};
+use json_docs::{DocCause, MAX_DEPTH, is_scalar, next_name, text_of, u64_of};
 use std::alloc::Global;
 
 /// How deep a member of the outermost object nests at most.
@@ -128,46 +129,49 @@ fn read_kind(
     kind: Kind,
     header: Header,
 ) -> Result<Header, DocCause>
-    requires { are_in_range reader.old ≡ true }
+    requires numbers { are_in_range reader.old ≡ true }
+    requires places { length reader.old < 2 ^ 64 }
     ensures { MatchResult result
         (λ next. (d : Data) × ReadsNext reader.old d reader.new
         × (next ≡ record header { is_kind = is_text (kind_text kind) (as_str d) }))
         (OrMemory NoMemory (ReadsNone 126 reader.old)) }
 {
-    let value = next_value(alloc, reader, MEMBER_DEPTH)?;
+    let kept = next_cut(alloc, reader, MEMBER_DEPTH, 0)?;
     Ok(Header {
-        is_kind: is_kind(kind, &value),
+        is_kind: is_kind(kind, &kept.value),
         ..header
     })
 }
 
 /// Reads the member `version`.
 fn read_version(alloc: Global, reader: &mut Reader<'_>, header: Header) -> Result<Header, DocCause>
-    requires { are_in_range reader.old ≡ true }
+    requires numbers { are_in_range reader.old ≡ true }
+    requires places { length reader.old < 2 ^ 64 }
     ensures { MatchResult result
         (λ next. (d : Data) × ReadsNext reader.old d reader.new
         × (next ≡ record header { version = u64_in d }))
         (OrMemory NoMemory (ReadsNone 126 reader.old)) }
 {
-    let version = next_value(alloc, reader, MEMBER_DEPTH)?;
+    let version = next_cut(alloc, reader, MEMBER_DEPTH, 0)?;
     Ok(Header {
-        version: u64_of(&version),
+        version: u64_of(&version.value),
         ..header
     })
 }
 
 /// Reads the member of the subject.
 fn read_subject(alloc: Global, reader: &mut Reader<'_>, header: Header) -> Result<Header, DocCause>
-    requires { are_in_range reader.old ≡ true }
+    requires numbers { are_in_range reader.old ≡ true }
+    requires places { length reader.old < 2 ^ 64 }
     ensures { MatchResult result
         (λ next. (d : Data) × ReadsNext reader.old d reader.new
         × ((subject : Subject) × IsSubject subject d
         × (next ≡ record header { subject = Some subject })))
         (OrMemory NoMemory (ReadsNone 126 reader.old)) }
 {
-    let subject = next_value(alloc, reader, MEMBER_DEPTH)?;
+    let subject = next_cut(alloc, reader, MEMBER_DEPTH, 0)?;
     Ok(Header {
-        subject: Some(subject_of(&subject)),
+        subject: Some(subject_of(&subject.value)),
         ..header
     })
 }
@@ -203,7 +207,7 @@ fn read_array<C, R: Rows<C>>(
             })
         }
         Token::BeginObject => {
-            pass_members(reader)?;
+            pass_members(reader, MEMBER_DEPTH - 1)?;
             Ok(Header {
                 rows: None,
                 ..header
@@ -219,24 +223,6 @@ fn read_array<C, R: Rows<C>>(
             })
         }
     }
-}
-
-/// Skips the members of an object whose brace was read.
-fn pass_members(reader: &mut Reader<'_>) -> Result<(), DocCause>
-    requires { are_in_range reader.old ≡ true }
-    ensures read { MatchResult result
-        (λ _. (ms : Members) × ReadsMembers 125 reader.old ms reader.new)
-        (λ e. (e ≡ NotJson) × ReadsNoMembers 125 reader.old) }
-    ensures left { OnOk result (are_in_range reader.new ≡ true) }
-    ensures shorter { OnOk result (length reader.new < length reader.old) }
-{
-    while let Some(_) = next_name(reader)? {
-        match reader.skip_value(MEMBER_DEPTH - 1) {
-            Ok(()) => {}
-            Err(_) => return Err(DocCause::NotJson),
-        }
-    }
-    Ok(())
 }
 
 /// Skips the value of a member of another name.

@@ -3,6 +3,7 @@
 //!
 //! - [`read_header`] reads a document of a [`Kind`] and gives its rows to a [`Rows`], one after
 //!   another; a summary takes its rows so.
+//! - [`Cut`] is what is kept of a row until then, so that a refused one takes little memory.
 //! - [`CellRow`] is a row as it is written, and [`cell_entry`] what it means; [`entry_of_row`] is
 //!   both.
 //! - [`plain_texts`] reads what is in the form that is written byte by byte.
@@ -14,6 +15,7 @@
 
 mod arrays;
 mod ascending;
+mod cuts;
 mod entries;
 mod fields;
 mod header;
@@ -27,6 +29,7 @@ mod writing;
 
 pub use arrays::Rows;
 pub use ascending::entry_of_row;
+pub use cuts::{Cut, recounted};
 pub use entries::{write_entry, write_stamped};
 pub use fields::{cell_entry, id_of, language_of, of_cell, stamp_entry};
 pub use header::Subject;

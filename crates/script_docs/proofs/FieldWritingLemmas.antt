@@ -30,7 +30,9 @@ use Rattle.list_core.specs.Item.{Item, item_eq, item_equiv}
 use Rattle.list_core.specs.Weight.{HasWeight, IsQvalue, thousandths}
 use Rattle.list_core.specs.declared.fault.NegoFault.{NegoFault}
 use Rattle.list_core.specs.declared.fault.NegoFault.TheVariants.{FieldMalformed, FieldTooLong}
-use Rattle.list_core.specs.declared.fault.NegoFault.TheVariants.{NoMemory}
+use Rattle.list_core.specs.declared.fault.NegoFault.TheVariants.{FallbackMalformed, NoMemory}
+use Rattle.std.specs.Option.{option_eq}
+use Rattle.std.specs.Prelude.{◌&&◌, None, Option, Some}
 use Rattle.list_core.specs.declared.field.Malformed.TheVariants.{Refused}
 use Rattle.list_core.specs.declared.scheme.Scheme.{Scheme}
 use Rattle.list_core.specs.declared.scheme.Scheme.TheVariants.{Basic, Extended}
@@ -331,6 +333,7 @@ element_again scheme piece item small p =
       range_ok = subst (IsRange (RangeGrammar scheme)) (sym own) range_ok;
       range_is = sym own;
       weight_ok = weight.0;
+      unlisted = e.unlisted;
     } in
     let range_size : length item.range ≡ length e.range = ap length e.range_is ∙ lower_size in
     let size : length piece ≡ length (p.before ++ (p.element ++ p.after)) = ap length p.whole in
@@ -461,13 +464,33 @@ refused_lists_none scheme text items FieldTooLong other refuses lists =
     let few : length text ≤ 65535 = lists.0 in omega (arith, refuses)
 refused_lists_none scheme text items (FieldMalformed offset) other refuses lists =
     malformed_is_no_field scheme text offset items refuses.1 lists.1
+refused_lists_none scheme text items (FallbackMalformed offset) other refuses lists = absurd refuses
 refused_lists_none scheme text items NoMemory other refuses lists = other refl
+
+same_texts : (a b : List (List ℕ)) → pointwise (pointwise nat_eq) a b ≡ true → a ≡ b
+same_texts [] [] h = refl
+same_texts [] (y ∷ b) h = cc
+same_texts (x ∷ a) [] h = cc
+same_texts (x ∷ a) (y ∷ b) h =
+    let parts = and_parts (pointwise nat_eq x y) (pointwise (pointwise nat_eq) a b) h in
+    ap (λ (t : List ℕ). t ∷ a) ((bytes_decides x y).0 parts.0)
+    ∙ ap (λ (t : List (List ℕ)). y ∷ t) (same_texts a b parts.1)
+
+same_listed : (a b : Option (List (List ℕ)))
+    → option_eq (pointwise (pointwise nat_eq)) a b ≡ true → a ≡ b
+same_listed None None h = refl
+same_listed None (Some y) h = cc
+same_listed (Some x) None h = cc
+same_listed (Some x) (Some y) h = ap Some (same_texts x y h)
 
 item_decides : (i j : Item) → Decides (item_eq i j) (i ≡ j)
 item_decides i j = (
-  λ h. (let parts = and_parts (pointwise nat_eq i.range j.range) (nat_eq i.weight j.weight) h in
+  λ h. (let both =
+      and_parts (pointwise nat_eq i.range j.range && nat_eq i.weight j.weight)
+      (option_eq (pointwise (pointwise nat_eq)) i.listed j.listed) h in
+      let parts = and_parts (pointwise nat_eq i.range j.range) (nat_eq i.weight j.weight) both.0 in
       item_is i j ((bytes_decides i.range j.range).0 parts.0)
-      (same_number i.weight j.weight parts.1)),
+      (same_number i.weight j.weight parts.1) (same_listed i.listed j.listed both.1)),
   λ e. subst (λ (x : Item). item_eq i x ≡ true) e (item_equiv.refl i),
 )
 

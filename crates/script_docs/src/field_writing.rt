@@ -51,7 +51,9 @@ fn no_list(fault: NegoFault) -> Result<bool, AllocError>
     ensures { IfOk result (λ same. (same ≡ false) × (fault ≢ NoMemory)) }
 {
     match fault {
-        NegoFault::FieldTooLong | NegoFault::FieldMalformed { .. } => Ok(false),
+        NegoFault::FieldTooLong
+        | NegoFault::FieldMalformed { .. }
+        | NegoFault::FallbackMalformed { .. } => Ok(false),
         NegoFault::NoMemory => Err(AllocError),
     }
 }

@@ -1,14 +1,11 @@
 //! Scripts: steps of several sites, as a document has them.
 ghost use Rattle.std.specs.Prelude.{◌≡◌};
-ghost use Rattle.json.specs.Value.{value_view};
-ghost use Rattle.json_docs.specs.ScanningReads.{IsRead, seen};
 
 use crate::step_fields::read_step;
 use crate::steps::step_of;
 use cata_core::Step;
-use json::Value;
 use json_docs::{DocCause, Spot};
-use row_docs::{Rows, Version};
+use row_docs::{Cut, Rows, Version, recounted};
 use std::alloc::Global;
 use std::marker::Model;
 
@@ -101,14 +98,17 @@ impl Rows<()> for Steps {
         alloc: Global,
         version: Version,
         place: usize,
-        row: &Value<'_>,
+        row: &Cut<'_>,
     ) -> Result<(), DocCause> {
-        let Some(step) = step_of(version, row) else {
+        let Some(step) = step_of(version, &row.value) else {
             return Err(DocCause::Shape {
                 spot: Spot::Row(place),
             });
         };
-        let step = read_step(alloc, place, step)?;
+        let step = match read_step(alloc, place, step) {
+            Ok(step) => step,
+            Err(cause) => return Err(recounted(row.texts, cause)),
+        };
         self.steps.push(step)?;
         Ok(())
     }

@@ -37,7 +37,7 @@ use Rattle.catalogue.specs.Entries.{Entries, Entry}
 use Rattle.catalogue.specs.Live.{live, live_of}
 use Rattle.row_docs.specs.EntriesValid.{AreKeptCells, IsKeptCell}
 use Rattle.text_docs.specs.Message.{IsCompactSite}
-use Rattle.text_docs.specs.Part.{BeginsAt, BeginsBefore, EndsAfter, EndsAt}
+use Rattle.text_docs.specs.Part.{BeginsAt, HasAllFrom, HasAllUpTo, EndsAt}
 use Rattle.text_docs.specs.Rows.{AreRows, AreRowsAt, IsTail, opening}
 use Rattle.text_docs.specs.RowsCompact.{CompactRow, IsCompactRow, entries, row_text, rows_text}
 use Rattle.text_docs.proofs.MessageKeptLemmas.{kept_of_reads}
@@ -266,8 +266,8 @@ rows_of_site bytes site compact = record {
 
 -- the document of the rows between two places, of which no others are of the message
 pub part_reads : (bytes document id : List ℕ) (site : SiteState) (top start end last : ℕ)
-    → IsCompactSite bytes site → AreRowsAt bytes top last → BeginsBefore bytes id start
-    → EndsAfter bytes id end → start ≤ end
+    → IsCompactSite bytes site → AreRowsAt bytes top last → HasAllFrom bytes id start
+    → HasAllUpTo bytes id end → start ≤ end
     → document ≡ opening ++ (slice_range bytes start end ++ drop last bytes)
     → IsSitePart document id site.cells
 part_reads bytes document id site top start end last compact rows_at begins ends ordered is =

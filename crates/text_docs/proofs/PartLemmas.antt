@@ -24,7 +24,7 @@ use Rattle.cell_core.specs.Entry.{EntryKey, key_cmp, text_cmp}
 use Rattle.catalogue.specs.Entries.{Entries, Entry}
 use Rattle.catalogue.proofs.CatalogueAboveLemmas.{front_below}
 use Rattle.site_docs.specs.Plain.{IsEnd, last_members}
-use Rattle.text_docs.specs.Part.{BeginsAt, BeginsBefore, EndsAfter, EndsAt}
+use Rattle.text_docs.specs.Part.{BeginsAt, HasAllFrom, HasAllUpTo, EndsAt}
 use Rattle.text_docs.specs.Row.{ReadsAsRow, is_simple, is_unclosed_from}
 use Rattle.text_docs.specs.RowStrings.{IsString}
 use Rattle.text_docs.specs.Rows.{AreRows, AreRowsAt, IsTail, opening}
@@ -379,7 +379,7 @@ IsOrder written id order = (text : List ℕ) → IsString written text → is_si
 pub begins_at_lesser : (text written id : List ℕ) (place : ℕ) (order : Ordering)
     → ReadsAsRow (drop place text) written → is_simple written ≡ true → IsOrder written id order
     → is_lt order ≡ true
-    → BeginsBefore text id (place + 2)
+    → HasAllFrom text id (place + 2)
 begins_at_lesser text written id place order reads simple is less = λ rows tail are.
     let at = row_of_place text written rows tail place are reads in
     begins_at_row text written id rows tail place are at
@@ -390,7 +390,7 @@ begins_at_lesser text written id place order reads simple is less = λ rows tail
 pub ends_at_greater : (text written id : List ℕ) (place : ℕ) (order : Ordering)
     → ReadsAsRow (drop place text) written → is_simple written ≡ true → IsOrder written id order
     → is_gt order ≡ true
-    → EndsAfter text id (place + 1)
+    → HasAllUpTo text id (place + 1)
 ends_at_greater text written id place order reads simple is greater = λ rows tail are.
     let at = row_of_place text written rows tail place are reads in
     ends_at_row text written id rows tail place are at
@@ -399,7 +399,7 @@ ends_at_greater text written id place order reads simple is greater = λ rows ta
 
 -- no row is after all rows
 pub ends_at_last : (text id : List ℕ) (start end : ℕ) → AreRowsAt text start end
-    → EndsAfter text id end
+    → HasAllUpTo text id end
 ends_at_last text id start end at = λ rows tail are. record {
   before = rows;
   after = [];

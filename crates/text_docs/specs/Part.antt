@@ -21,12 +21,12 @@ pub record EndsAt (id rest : List ℕ) (rows : List CompactRow) (tail : List ℕ
   pub rest_is : rest ≡ rows_text true after ++ tail
   pub others : All (λ (row : CompactRow). text_cmp row.entry.0.0 id ≡ Greater) after
 
--- where the text has these rows, none before this place is of the message
-abbrev pub BeginsBefore : List ℕ → List ℕ → ℕ → Type 0
-BeginsBefore text id place = (rows : List CompactRow) (tail : List ℕ) → AreRows text rows tail
+-- where the text has these rows, all rows of the message are from this place on
+abbrev pub HasAllFrom : List ℕ → List ℕ → ℕ → Type 0
+HasAllFrom text id place = (rows : List CompactRow) (tail : List ℕ) → AreRows text rows tail
     → BeginsAt id (drop place text) rows tail
 
--- where the text has these rows, none after this place is of the message
-abbrev pub EndsAfter : List ℕ → List ℕ → ℕ → Type 0
-EndsAfter text id place = (rows : List CompactRow) (tail : List ℕ) → AreRows text rows tail
+-- where the text has these rows, all rows of the message are up to this place
+abbrev pub HasAllUpTo : List ℕ → List ℕ → ℕ → Type 0
+HasAllUpTo text id place = (rows : List CompactRow) (tail : List ℕ) → AreRows text rows tail
     → EndsAt id (drop place text) rows tail

@@ -1,6 +1,6 @@
 //! The part of a written document in which all rows of a message are.
 ghost use Rattle.std.specs.Prelude.{◌≡◌, ◌<◌, ◌≤◌, IfSome, length};
-ghost use Rattle.text_docs.specs.Part.{BeginsBefore, EndsAfter};
+ghost use Rattle.text_docs.specs.Part.{HasAllFrom, HasAllUpTo};
 ghost use Rattle.text_docs.specs.Rows.{AreRowsAt};
 
 use crate::id_order::order_of;
@@ -11,8 +11,8 @@ use crate::rows::Rows;
 /// them. The first may be of the message before.
 pub(crate) fn part_of(text: &[u8], rows: Rows, id: &[u8]) -> Rows
     requires { AreRowsAt text.now rows.start rows.end }
-    ensures start { BeginsBefore text.now id.now result.start }
-    ensures end { EndsAfter text.now id.now result.end }
+    ensures start { HasAllFrom text.now id.now result.start }
+    ensures end { HasAllUpTo text.now id.now result.end }
     ensures within { (result.start ≤ result.end) × (result.end ≤ rows.end) }
 {
     let start = last_before(text, rows, id);
@@ -23,7 +23,7 @@ pub(crate) fn part_of(text: &[u8], rows: Rows, id: &[u8]) -> Rows
 /// Where the last row of a lesser id begins, found by bisection; or where the first row begins.
 fn last_before(text: &[u8], rows: Rows, id: &[u8]) -> usize
     requires { AreRowsAt text.now rows.start rows.end }
-    ensures begins { BeginsBefore text.now id.now result }
+    ensures begins { HasAllFrom text.now id.now result }
     ensures within { result ≤ rows.end }
 {
     let mut low = rows.start;
@@ -42,7 +42,7 @@ fn last_before(text: &[u8], rows: Rows, id: &[u8]) -> usize
 fn lesser_row(text: &[u8], from: usize, end: usize, id: &[u8]) -> Option<usize>
     requires { end ≤ length text.now }
     ensures { IfSome result (λ start. (from < start) × (start ≤ end)
-        × BeginsBefore text.now id.now start) }
+        × HasAllFrom text.now id.now start) }
 {
     let row = next_row(text, from, end)?;
     let start = row.bracket + 2;
@@ -56,8 +56,8 @@ fn lesser_row(text: &[u8], from: usize, end: usize, id: &[u8]) -> Option<usize>
 /// Where the first row of a greater id begins, or all rows end.
 fn first_after(text: &[u8], start: usize, end: usize, id: &[u8]) -> usize
     requires within { (start ≤ end) × (end ≤ length text.now) }
-    requires end { EndsAfter text.now id.now end }
-    ensures ends { EndsAfter text.now id.now result }
+    requires end { HasAllUpTo text.now id.now end }
+    ensures ends { HasAllUpTo text.now id.now result }
     ensures within { (start ≤ result) × (result ≤ end) }
 {
     let mut from = start;

@@ -6,7 +6,7 @@ ghost use Rattle.cata_core.specs.declared.step.Step.TheVariants.{AskFilter, AskL
 ghost use Rattle.cata_core.specs.declared.step.Step.TheVariants.{Tell, Post, Deliver};
 ghost use Rattle.catalogue.specs.Entries.{Entries, Agree, joined};
 ghost use Rattle.catalogue.specs.CataFault.{IsRefusal, IsOfCells};
-ghost use Rattle.cata_core.specs.PlayFault.{IsFaultOf};
+ghost use Rattle.cata_core.specs.PlayFault.{RefusesStep};
 ghost use Rattle.cata_core.specs.World.{held_in, IsRunning, IsStepped, IsClashAt};
 
 use crate::answer::{Answer, Edits};
@@ -33,7 +33,7 @@ impl World {
         requires { IsRunning (length self.old.sites.items) (held_in self.old) }
         ensures ok { OnOk result (IsStepped self.old self.new step.now) }
         ensures err { IfErr result
-            (IsFaultOf (length self.old.sites.items) (held_in self.old) number step.now) }
+            (RefusesStep (length self.old.sites.items) (held_in self.old) number step.now) }
     {
         match step {
             Step::Edit { site, edit: made } => self.edit(alloc, number, *site, made),
@@ -68,7 +68,7 @@ impl World {
         requires { IsRunning (length self.old.sites.items) (held_in self.old) }
         ensures ok { OnOk result (IsStepped self.old self.new (EditStep site edit.now)) }
         ensures err { IfErr result
-            (IsFaultOf (length self.old.sites.items) (held_in self.old) number
+            (RefusesStep (length self.old.sites.items) (held_in self.old) number
             (EditStep site edit.now)) }
     {
         if site >= self.sites.len() {
@@ -88,7 +88,7 @@ impl World {
         requires { IsRunning (length self.old.sites.items) (held_in self.old) }
         ensures ok { OnOk result (IsStepped self.old self.new (Merge into source)) }
         ensures err { IfErr result
-            (IsFaultOf (length self.old.sites.items) (held_in self.old) number
+            (RefusesStep (length self.old.sites.items) (held_in self.old) number
             (Merge into source)) }
     {
         if into >= self.sites.len() || source >= self.sites.len() {
@@ -117,7 +117,7 @@ impl World {
         ensures ok { OnOk result
             (IsStepped self.old self.new (AskFilter site id.now scheme list.now)) }
         ensures err { IfErr result
-            (IsFaultOf (length self.old.sites.items) (held_in self.old) number
+            (RefusesStep (length self.old.sites.items) (held_in self.old) number
             (AskFilter site id.now scheme list.now)) }
     {
         if site >= self.sites.len() {
@@ -143,7 +143,7 @@ impl World {
         ensures ok { OnOk result
             (IsStepped self.old self.new (AskLookup site id.now list.now default.now)) }
         ensures err { IfErr result
-            (IsFaultOf (length self.old.sites.items) (held_in self.old) number
+            (RefusesStep (length self.old.sites.items) (held_in self.old) number
             (AskLookup site id.now list.now default.now)) }
     {
         if site >= self.sites.len() {
@@ -160,7 +160,7 @@ impl World {
         requires { IsRunning (length self.old.sites.items) (held_in self.old) }
         ensures ok { OnOk result (IsStepped self.old self.new (AskCells site)) }
         ensures err { IfErr result
-            (IsFaultOf (length self.old.sites.items) (held_in self.old) number (AskCells site)) }
+            (RefusesStep (length self.old.sites.items) (held_in self.old) number (AskCells site)) }
     {
         if site >= self.sites.len() {
             return Err(PlayFault::NoSuchSite { step: number });
@@ -175,7 +175,7 @@ impl World {
         requires { IsRunning (length self.old.sites.items) (held_in self.old) }
         ensures ok { OnOk result (IsStepped self.old self.new (Tell site)) }
         ensures err { IfErr result
-            (IsFaultOf (length self.old.sites.items) (held_in self.old) number (Tell site)) }
+            (RefusesStep (length self.old.sites.items) (held_in self.old) number (Tell site)) }
     {
         if site >= self.sites.len() {
             return Err(PlayFault::NoSuchSite { step: number });
@@ -197,7 +197,7 @@ impl World {
         requires { IsRunning (length self.old.sites.items) (held_in self.old) }
         ensures ok { OnOk result (IsStepped self.old self.new (Post site told)) }
         ensures err { IfErr result
-            (IsFaultOf (length self.old.sites.items) (held_in self.old) number (Post site told)) }
+            (RefusesStep (length self.old.sites.items) (held_in self.old) number (Post site told)) }
     {
         if site >= self.sites.len() {
             return Err(PlayFault::NoSuchSite { step: number });
@@ -217,7 +217,7 @@ impl World {
         requires { IsRunning (length self.old.sites.items) (held_in self.old) }
         ensures ok { OnOk result (IsStepped self.old self.new (Deliver post)) }
         ensures err { IfErr result
-            (IsFaultOf (length self.old.sites.items) (held_in self.old) number (Deliver post)) }
+            (RefusesStep (length self.old.sites.items) (held_in self.old) number (Deliver post)) }
     {
         if post >= self.posts.len() {
             return Err(PlayFault::NoSuchPost { step: number });

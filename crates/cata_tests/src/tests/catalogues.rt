@@ -138,12 +138,19 @@ fn changed(alloc: Global, before: &str, after: &str) -> Result<String, Fail> {
     Ok(shown::changes(alloc, before.changes(&after))?)
 }
 
+/// Whether two catalogues agree.
+fn agreeing(alloc: Global, one: &str, other: &str) -> Result<String, Fail> {
+    let (one, other) = (catalogue(alloc, one)?, catalogue(alloc, other)?);
+    Ok(format!(in alloc; "{}", one.agrees(&other))?)
+}
+
 /// What is asked of one text, and another.
 fn asked(alloc: Global, kind: &str, one: &str, other: &str) -> Result<String, Fail> {
     match kind {
         "edits" => applied(alloc, one),
         "edit" => applying(alloc, one, other),
         "merge" => merging(alloc, one, other),
+        "agree" => agreeing(alloc, one, other),
         _ => changed(alloc, one, other),
     }
 }
@@ -192,6 +199,20 @@ const ROWS: &[(&str, &str, &str, &str, &str)] = &[
         "m en 1 1 0 a; m fr 1 1 1 b",
         "m en 2 1 0 -; z en 3 1 0 c",
         "done: m en 2 0000000001 0 -; m fr 1 0000000001 1 b; z en 3 0000000001 0 c",
+    ),
+    (
+        "cells of one stamp and one label agree, as do those of several stamps",
+        "agree",
+        "m en 1 1 0 a; m fr 2 1 0 b",
+        "m en 1 1 0 a; m fr 3 1 0 c; n en 1 1 0 d",
+        "true",
+    ),
+    (
+        "cells of one stamp and two labels do not agree",
+        "agree",
+        "m en 1 1 0 a; n en 4 1 0 x",
+        "n en 4 1 0 y",
+        "false",
     ),
     (
         "an equal cell is left out",

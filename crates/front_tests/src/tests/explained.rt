@@ -5,7 +5,7 @@ use std::process::Abort;
 
 #[test]
 fn no_refusal(rt: HostRuntime) {
-    for number in [0, 31, 255] {
+    for number in [0, 32, 255] {
         assert!(rt; explain(number).is_none(), "{number}");
     }
 }
@@ -18,6 +18,7 @@ fn words(rt: HostRuntime) {
         ("wrong-addressee", Some(15)),
         ("clock-ahead", Some(29)),
         ("own-edit-missing", Some(30)),
+        ("fallback-malformed", Some(31)),
         ("", None),
         ("Clock-Ahead", None),
         ("clock-ahead ", None),

@@ -24,6 +24,7 @@ fn strict(text: &str) -> Field<'_> {
         scheme: Scheme::Basic,
         malformed: Malformed::Refused,
         widening: Widening::Off,
+        fallbacks: &[],
         text: text.as_bytes(),
     }
 }

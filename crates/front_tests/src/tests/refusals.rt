@@ -20,6 +20,7 @@ fn accept(text: &[u8]) -> Field<'_> {
         scheme: Scheme::Basic,
         malformed: Malformed::Refused,
         widening: Widening::Off,
+        fallbacks: &[],
         text,
     }
 }

@@ -10,6 +10,7 @@ fn field(scheme: Scheme, text: &str) -> Field<'_> {
         scheme,
         malformed: Malformed::Refused,
         widening: Widening::Off,
+        fallbacks: &[],
         text: text.as_bytes(),
     }
 }

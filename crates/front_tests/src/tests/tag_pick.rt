@@ -12,6 +12,7 @@ fn accept(text: &str) -> Field<'_> {
         scheme: Scheme::Basic,
         malformed: Malformed::Refused,
         widening: Widening::Off,
+        fallbacks: &[],
         text: text.as_bytes(),
     }
 }

@@ -19,6 +19,7 @@ fn widened(scheme: Scheme, text: &str) -> Field<'_> {
         scheme,
         malformed: Malformed::Refused,
         widening: Widening::By(scheme),
+        fallbacks: &[],
         text: text.as_bytes(),
     }
 }

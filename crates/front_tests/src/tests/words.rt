@@ -57,6 +57,7 @@ fn borrowed_words(rt: HostRuntime) -> Result<(), Fail> {
         scheme: Scheme::Basic,
         malformed: Malformed::Refused,
         widening: Widening::Off,
+        fallbacks: &[],
         text: b"fr-CA".as_slice(),
     };
     let tags = ["en", "FR"];

@@ -26,6 +26,7 @@ fn accept(text: &str) -> Field<'_> {
         scheme: Scheme::Basic,
         malformed: Malformed::Refused,
         widening: Widening::Off,
+        fallbacks: &[],
         text: text.as_bytes(),
     }
 }

@@ -10,10 +10,9 @@ ghost use Rattle.site_docs.specs.ShownRows.{HoldsShown, key_of};
 
 use crate::sink::{CellRef, CellSink, LabelRef};
 use cell_core::{Cell, Key, MessageId};
-use json::Value;
 use json_docs::DocCause;
 use lang_core::Lang;
-use row_docs::{Rows, Version, entry_of_row};
+use row_docs::{Cut, Rows, Version, entry_of_row};
 use std::alloc::{AllocError, Global};
 use std::marker::PhantomData;
 
@@ -63,7 +62,7 @@ impl<'t, S: CellSink<'t>> Rows<S> for ShownRows<'t, S> {
         alloc: Global,
         version: Version,
         place: usize,
-        row: &Value<'_>,
+        row: &Cut<'_>,
     ) -> Result<(), DocCause> {
         let (id, lang, cell) = entry_of_row(alloc, version, place, row)?.into_parts();
         if !is_after(&self.last, &id, &lang) {

@@ -13,4 +13,4 @@ returns g c =
     c.args.place c.index-items-place.result _
     (rw c.items-items.ensures.items at c.if-place-items.false)
     (rw c.items-items.ensures.items at c.index-items-place.is)
-    (rw c.range.ensures at c.first_of.ensures)
+    c.first_of.ensures

@@ -1,8 +1,7 @@
-use Rattle.std.proofs.Common.{◌≡◌, ◌<◌, length, arith}
+use Rattle.std.proofs.Common.{◌<◌, length, arith}
 use Rattle.std.specs.Prelude.{map}
 use Rattle.std.proofs.lemmas.Bool.Decides.{nat_tests}
-use Rattle.std.proofs.lemmas.List.{length-map}
-use Rattle.nego_core.specs.Filtering.{IsFiltered, HasPick, key_of}
+use Rattle.nego_core.specs.Filtering.{IsFiltered, HasPick}
 use Rattle.nego_core.proofs.FilteringKeys.{filtered}
 use Rattle.nego_core.proofs.FilteringSome.{some_pick, refused_by}
 use Rattle.nego_core.proofs.filtering.filter_by.Goals as goal
@@ -11,12 +10,11 @@ pub returns-in_err-picks : goal.returns-in_err-picks
 returns-in_err-picks g c =
     let langs = map g.L.AsLang.text c.args.langs.now in
     let keys = c.in_ok-keys.keys.items in
-    let size : length (map key_of keys) ≡ length keys = simp length-map in
     let some : 0 < length keys = grind (arith, nat_tests) in
     refused_by (IsFiltered c.args.scheme c.args.list.now langs)
     (HasPick c.args.scheme c.args.list.now langs) c.from_residual-in_err-picks.result
     c.from_residual-in_err-picks.ensures.0 c.from_residual-in_err-picks.ensures.1
-    (some_pick c.args.scheme c.args.list.now langs (map key_of keys) c.in_ok-keys.ensures
+    (some_pick c.args.scheme c.args.list.now langs keys c.in_ok-keys.ensures
     (omega arith))
 
 pub returns : goal.returns

@@ -1,5 +1,5 @@
 use Rattle.std.specs.Prelude.{map}
-use Rattle.nego_core.specs.Filtering.{AreKeys, HasPick, key_of}
+use Rattle.nego_core.specs.Filtering.{AreKeys, HasPick}
 use Rattle.nego_core.proofs.FilteringKeys.{key_next, none_next, text_within, text_at}
 use Rattle.nego_core.proofs.FilteringSome.{pick_given, refused}
 use Rattle.nego_core.proofs.filtering.filter_keys_of.Goals as goal
@@ -10,11 +10,11 @@ returns-in_err-push-in-Some g c =
     let text = g.L.AsLang.text in
     let langs = c.args.langs.now in
     refused
-    (λ keys. AreKeys c.args.scheme c.args.list.now 0 (map text langs) (map key_of keys.items))
+    (λ keys. AreKeys c.args.scheme c.args.list.now 0 (map text langs) keys.items)
     (HasPick c.args.scheme c.args.list.now (map text langs)) c.from_residual.result
     c.from_residual.ensures.0
     (pick_given c.args.scheme c.args.list.now text langs c.loop-place.place
-    c.index-langs-place.result (key_of c.in-Some.key) c.loop-place-test.true
+    c.index-langs-place.result c.in-Some.key c.loop-place-test.true
     c.index-langs-place.is (rw c.as_lang.ensures at c.in-Some.ensures))
 
 -- The keys are those of the languages before the place: the next language has a key, which is

@@ -1,6 +1,6 @@
 use Rattle.std.proofs.Common.{◌≡◌, ◌<◌, sym, ◌∙◌, ap, arith, inl, length, subst}
 use Rattle.std.proofs.lemmas.Option.{slice_get_past}
-use Rattle.lang_core.specs.Truncations.{truncations_left}
+use Rattle.list_core.specs.Candidates.{candidates_left}
 use Rattle.nego_core.specs.Filtering.{texts_of}
 use Rattle.list_core.proofs.Basics.{false_true, same_default}
 use Rattle.nego_core.specs.declared.shortlist.MatchedLang.{MatchedLang}
@@ -29,8 +29,8 @@ loop-text-init c =
     c.loop-at.ranked.items c.in-Some.item.now _ c.loop-at-test.true
     (let read = rw c.items-items.ensures.items at c.in-Some.ensures.lookup in
     read_at c.args.list.now _ c.in-Some.item.now read.0 read.1)
-    (ap truncations_left c.into_iter-text-iterator.ensures.into_iter_gives
-    ∙ rw c.range.ensures at c.truncations-text-items.ensures)
+    (ap candidates_left c.into_iter-text-iterator.ensures.into_iter_gives
+    ∙ c.candidates-text-items.ensures)
     c.loop-at.invariant
 
 pub loop-text-preserved-in-Continue-branch-3 : goal.loop-text-preserved-in-Continue-branch-3

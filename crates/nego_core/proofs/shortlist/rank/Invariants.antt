@@ -1,5 +1,5 @@
 use Rattle.std.proofs.Common.{◌-◌, length}
-use Rattle.lang_core.specs.Truncations.{truncations_left}
+use Rattle.list_core.specs.Candidates.{candidates_left}
 use Rattle.nego_core.specs.Filtering.{texts_of}
 use Rattle.nego_core.proofs.ShortlistRankingLemmas.{AtCandidates, AtKey, AtMatched}
 use Rattle.nego_core.proofs.shortlist.rank.Given as goal
@@ -7,7 +7,7 @@ use Rattle.nego_core.proofs.shortlist.rank.Given as goal
 abbrev pub invariant-loop-text : goal.invariant-loop-text
 invariant-loop-text l =
     AtCandidates l.fn.widening l.list (texts_of l.langs) l.matched.items l.keys l.at l.next l.left
-    l.ranked.items (truncations_left l.text-iterator)
+    l.ranked.items (candidates_left l.text-iterator)
 
 abbrev pub invariant-loop-next : goal.invariant-loop-next
 invariant-loop-next l =

@@ -60,7 +60,7 @@ loop-message-preserved-in-Continue-branch-5 c =
     let found = shortlisted c.args.widening all c.args.list.now c.in_ok-langs.langs
     c.in_ok-shortlist.shortlist c.in-Some.message message.1 default reply
     (texts_of c.deref.result.now)
-    c.in_ok-shortlist.ensures texts c.in_ok-langs.ensures live.0 c.lookup_within.ensures in (
+    c.in_ok-shortlist.ensures texts c.in_ok-langs.ensures live.0 c.lookup_within.ensures.within in (
       bundling_found c.args.widening cells c.args.list.now default c.loop-message.draft
           c.add.new.self message (shown_all offer left) reply
           c.id.result.now c.in-Some-answered.lang.now c.in-Some-answered.label.now
@@ -87,7 +87,7 @@ loop-message-preserved c =
     let found = shortlisted c.args.widening all c.args.list.now c.in_ok-langs.langs
     c.in_ok-shortlist.shortlist c.in-Some.message message.1 default reply
     (texts_of c.deref.result.now)
-    c.in_ok-shortlist.ensures texts c.in_ok-langs.ensures live.0 c.lookup_within.ensures in (
+    c.in_ok-shortlist.ensures texts c.in_ok-langs.ensures live.0 c.lookup_within.ensures.within in (
       bundling_passed c.args.widening cells c.args.list.now default c.loop-message.draft
           message (shown_all offer left) reply b found c.in_default.ensures,
       live.1,

@@ -1,13 +1,13 @@
 use Rattle.std.proofs.Common.{◌≡◌, ℕ, List, arith, length, subst, sym}
 use Rattle.std.proofs.Math.Seq.{take-length}
 use Rattle.std.proofs.lemmas.List.Elements.{All-nil}
-use Rattle.nego_core.specs.WidenedChoice.{IsMatchedAt, MatchEarliest}
+use Rattle.nego_core.specs.WidenedChoice.{IsTriedAt, MatchEarliest}
 use Rattle.query_docs.proofs.LiveCellsLemmas.{languages_to}
 use Rattle.query_docs.proofs.live_cells.earliest_of.Goals as goal
 
 pub loop-cell-init : goal.loop-cell-init
 loop-cell-init c =
-    All-nil (λ l. (n : ℕ) → ¬ IsMatchedAt c.args.ranges.now.scheme c.args.ranges.now.list.now l n)
+    All-nil (λ l. (n : ℕ) → ¬ IsTriedAt c.args.ranges.now.scheme c.args.ranges.now.list.now l n)
 
 -- the language of this cell may be earlier
 pub loop-cell-preserved : goal.loop-cell-preserved

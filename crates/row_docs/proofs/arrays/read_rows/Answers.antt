@@ -2,7 +2,6 @@ use Rattle.std.proofs.Common.{◌<◌, ◌++◌, ◌-◌, ◌∙◌, [], ◌∷�
 use Rattle.std.proofs.Common.{length-append, refl}
 use Rattle.json.specs.Json.{parse_map, value}
 use Rattle.serde_json.specs.Data.{no_items}
-use Rattle.serde_json.specs.Read.{converted, of_json}
 use Rattle.json_docs.proofs.ScanningReadingLemmas.{item_read, item_refused, items_over}
 use Rattle.json_docs.proofs.ScanningArraysLemmas.{before, list_of-before, not_json, parse_map-none}
 use Rattle.json_docs.proofs.ScanningArraysLemmas.{parse_map-push, TakesRows-next}
@@ -54,7 +53,7 @@ returns-in-Err-clause-read g c =
     not_json c.in-Err.cause _ _
     (λ none. inv.3 ∙ ap (parse_map (before inv.1))
     (item_refused p inv.0 c.loop-alloc.reader going.0
-    (rw (← going.1) (ap (converted of_json) none))))
+    (rw (← going.1) none)))
     c.in-Err.ensures.read
 
 -- the rows that were read are all

@@ -1,5 +1,5 @@
 use Rattle.std.proofs.Common.{◌-◌, ◌≤◌}
-use Rattle.text_docs.specs.Part.{BeginsBefore}
+use Rattle.text_docs.specs.Part.{HasAllFrom}
 use Rattle.text_docs.proofs.part.last_before.Given as goal
 
 -- no row before the lower place is of the message
@@ -7,7 +7,7 @@ abbrev pub invariant-loop-low : goal.invariant-loop-low
 invariant-loop-low l = record {
   ordered : l.low ≤ l.high;
   within : l.high ≤ l.fn.rows.end;
-  begins : BeginsBefore l.fn.text l.fn.id l.low;
+  begins : HasAllFrom l.fn.text l.fn.id l.low;
 }
 
 abbrev pub decreases-loop-low : goal.decreases-loop-low

@@ -1,11 +1,11 @@
 use Rattle.std.specs.Option.{option_map}
 use Rattle.catalogue.specs.Reply.{reply_of}
 use Rattle.catalogue.specs.LiveIn.{live_in}
-use Rattle.catalogue.proofs.LiveLanguagesLemmas.{chosen_within, replied}
+use Rattle.catalogue.proofs.LiveLanguagesLemmas.{chosen_within, of_labels, replied}
 use Rattle.catalogue.proofs.live.Live.look_up_within.Goals as goal
 
-pub returns : goal.returns
-returns c = λ among.
+pub returns-clause-within : goal.returns-clause-within
+returns-clause-within c = λ among.
     let s = c.args.shortlist.now in
     let labels = live_in c.args.self.now in
     let default = option_map (λ l. l.now) c.args.default in
@@ -13,3 +13,8 @@ returns c = λ among.
     (c.choose.ensures.chosen among) in
     replied s.widening labels s.items default c.choose.result (reply_of c.reply.result) chosen
     c.reply.ensures
+
+pub returns-clause-there : goal.returns-clause-there
+returns-clause-there c =
+    of_labels (live_in c.args.self.now) (option_map (λ l. l.now) c.args.default) c.choose.result
+    (reply_of c.reply.result) c.reply.ensures

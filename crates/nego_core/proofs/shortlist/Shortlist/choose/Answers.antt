@@ -14,6 +14,19 @@ returns-in-Some-clause-chosen g c =
     c.as_str.result (rw c.as_str.ensures.text (c.self.invariant.finds langs
     (Some c.in-Some.lang.now) among (rw c.deref.ensures.value at c.in-Some.ensures))))
 
+-- The answer is the one that the walk over the ranking found.
+pub returns-in-Some-clause-first : goal.returns-in-Some-clause-first
+returns-in-Some-clause-first g c =
+    rw (← c.self.view_is, c.as_str.ensures.text) (rw c.deref.ensures.value at c.in-Some.ensures)
+
+pub returns-then-has_open_default-clause-first : goal.returns-then-has_open_default-clause-first
+returns-then-has_open_default-clause-first g c =
+    rw (← c.self.view_is) (rw c.deref.ensures.value at c.in-None.ensures)
+
+pub returns-else-has_open_default-clause-first : goal.returns-else-has_open_default-clause-first
+returns-else-has_open_default-clause-first g c =
+    rw (← c.self.view_is) (rw c.deref.ensures.value at c.in-None.ensures)
+
 pub returns-then-has_open_default-clause-chosen : goal.returns-then-has_open_default-clause-chosen
 returns-then-has_open_default-clause-chosen g c =
     let default = option_map (λ l. l.now) c.args.default in

@@ -3,7 +3,7 @@ use Rattle.std.proofs.lemmas.Result.{IfErr-weaker}
 use Rattle.std.proofs.lemmas.List.{length-set}
 use Rattle.cata_core.specs.declared.step.Step.TheVariants.{Deliver}
 use Rattle.cata_core.specs.WorldHeld.{PostedCells}
-use Rattle.cata_core.specs.PlayFault.{IsFaultOf}
+use Rattle.cata_core.specs.PlayFault.{RefusesStep}
 use Rattle.cata_core.specs.World.{held_in, IsClashAt}
 use Rattle.catalogue.proofs.Basics.{append_nil}
 use Rattle.cata_core.proofs.WorldLemmas.{delivered_sound, delivered_held, delivered_fault}
@@ -60,7 +60,7 @@ returns-clause-err c =
     c.index-post.ensures in
     let there = addressed n w.posts.items c.args.post p c.requires.posts lt post in
     IfErr-weaker c.take_in.result (IsClashAt c.args.number c.index_mut.result.now p.cells)
-    (IsFaultOf n (held_in w) c.args.number (Deliver c.args.post))
+    (RefusesStep n (held_in w) c.args.number (Deliver c.args.post))
     (delivered_fault w.sites.items w.told.items w.posts.items (Deliver c.args.post) c.args.post p
     c.index_mut.result.now refl lt post there c.index_mut.ensures.value n c.args.number)
     c.take_in.ensures.err
