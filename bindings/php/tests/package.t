@@ -59,7 +59,11 @@ asks() { # a line of the page
     grep "$1" "$room/page" "$room/server"
 }
 
-preload=(-d "opcache.preload=$package/autoload.php" -d opcache.preload_user=nobody)
+# (a copy, which the user that preloads can read wherever the repository is)
+copy=$room/package
+cp -r "$package" "$copy"
+chmod 755 "$room"
+preload=(-d "opcache.preload=$copy/autoload.php" -d opcache.preload_user=nobody)
 serves_by_preload() { serve "${preload[@]}" && asks "$greeting"; }
 serves_nothing_else() { serve && asks 'FFI API is restricted'; }
 
@@ -68,15 +72,11 @@ serves_nothing_else() { serve && asks 'FFI API is restricted'; }
 serves_by_both() {
     mkdir "$room/lib"
     ln -s "$library" "$room/lib/libsilkwaram.so.0"
-    cp -r "$package" "$room/package"
-    # (for the user that preloads)
-    chmod 755 "$room"
     (
         unset SILKWARAM_LIBRARY
         export LD_LIBRARY_PATH=$room/lib
-        serve -d "opcache.preload=$room/package/autoload.php" -d opcache.preload_user=nobody \
-            -d "ffi.preload=$room/package/src/silkwaram.h" || exit
-        rm "$room/package/src/silkwaram.h"
+        serve "${preload[@]}" -d "ffi.preload=$copy/src/silkwaram.h" || exit
+        rm "$copy/src/silkwaram.h"
         asks "$greeting"
     )
 }

@@ -15,6 +15,9 @@ use std::alloc::Global;
 /// The most bytes of a text of a label.
 const MAX_BYTES: usize = 65_535;
 
+/// The most texts of a label.
+const MAX_TEXTS: usize = 64;
+
 /// The label that the text begins with, none for null, and what comes after it.
 #[inline(always)]
 pub(crate) fn next_label<'t>(alloc: Global, text: &'t str) -> Option<(LabelRef<'t>, &'t str)>
@@ -89,7 +92,7 @@ fn one_text(text: String) -> Option<Label>
 }
 
 /// The label of the first text and those that the text begins with, up to and including the
-/// bracket.
+/// bracket. Too many texts are left to the other reader, which counts them.
 fn several_texts(alloc: Global, first: String, text: &str) -> Option<(Label, &str)>
     ensures text { IfSome result (λ r. 91 ∷ (quoted (string_bytes first) ++ text.now)
         ≡ compact_text (texts_value r.0) ++ r.1.now) }
@@ -102,6 +105,9 @@ fn several_texts(alloc: Global, first: String, text: &str) -> Option<(Label, &st
         Err(_) => return None,
     }
     while let Some((next, left)) = string_after(alloc, rest, ",") {
+        if texts.len() == MAX_TEXTS {
+            return None;
+        }
         match texts.push(next) {
             Ok(()) => {}
             Err(_) => return None,
