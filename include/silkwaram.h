@@ -14,10 +14,11 @@
  * After each declaration stands the version that had the call first with these parameters, and what document it reads.
  * A program that was linked with an earlier form of a call is not loaded: compile it anew.
  *
- * No call prints, waits, ends the process, or keeps a pointer that it was passed; but sw_rules_new keeps that of the
- * offer in the rules. Each call is proved to answer, to write and to leave what is said here. Not proved: time, stack
- * and memory, which are measured; that an edit through the only handle of a site makes no copy; that sw_site_share
- * makes none, and that the last handle of a site frees its memory, which are tried by counting and under valgrind.
+ * No call prints, waits, ends the process, or keeps a pointer that it was passed; but sw_rules_new keeps those of its
+ * two texts in the rules. Each call is proved to answer, to write and to leave what is said here. Not proved: time,
+ * stack and memory, which are measured; that an edit through the only handle of a site makes no copy; that
+ * sw_site_share makes none, and that the last handle of a site frees its memory, which are tried by counting and under
+ * valgrind.
  *
  * What the caller owes, which nothing checks:
  *
@@ -75,7 +76,7 @@ extern "C" {
 /* What a call reports beside its status. What a call does not name below is 0. */
 typedef struct sw_told {
   size_t len;      /* bytes of the answer, also where they did not fit */
-  size_t offset;   /* if the number is 3, 9 or 18: where the fault is in the text, in bytes from 0 */
+  size_t offset;   /* if the number is 3, 9, 18 or 31: where the fault is in the text, in bytes from 0 */
   size_t row;      /* of a refusal in a row of a document: the row, from 0 */
   size_t count;    /* as the calls say; if the number is 11 the index of the text in its label, if it is 12 how many
                       texts the label has, if it is 13 the index of the cell in the receiving site (indexes from 0) */
@@ -95,6 +96,40 @@ typedef struct sw_site {
 /* The version of the library, as SW_VERSION. */
 uint32_t sw_version(void); /* since 0.2 */
 
+/* ---- The rules of a publisher: what readers are offered, and which language is next to which.
+ *
+ * A site has more than is published: notes of translators in languages of private use (x-note), a translation that is
+ * not done yet. So each question of a reader takes `rules`, which say what is offered. It is answered as that question
+ * of the site, or of the tags, without what is not offered; a default is answered only if it is offered too.
+ * The rules have an offer. One of length 0 stands for `*, x;q=0`: all languages but those of private use. Any other is
+ * a field that is read as an Accept-Language field is, without SW_LENIENT. It offers a language if filtering by it
+ * takes the language (RFC 4647 section 3.3.1): `*` all, `en, fr` these and what they begin, `*, ja;q=0` all but
+ * Japanese. Labels without a language, `@none`, are always offered.
+ * The rules have a table of fallbacks, by which lookups go (docs/COMMAND.md, `--fallbacks`): elements TAG=TAG between
+ * commas, as `zh-TW=zh-Hant, no=nb`. Each question reads the table: one of 20 elements takes some microseconds. One of
+ * length 0 has no elements, and then a lookup is that of RFC 4647.
+ * The rules borrow both texts: they are yours, and stay as they are while the rules are used. Any threads may ask by
+ * the same rules at once. Rules of zeros (`sw_rules rules = {0};`) have an offer and a table of length 0. NULL stands
+ * for such rules in a question of a site or of its document; in sw_pick and sw_filter, whose tags you list yourself, it
+ * stands for the offer `*`. */
+typedef struct sw_rules {
+  const uint8_t *offer;
+  size_t offer_len;
+  const uint8_t *fallbacks;
+  size_t fallbacks_len;
+} sw_rules;
+
+/* Makes the rules of an offer and a table of fallbacks. A question refuses what is wrong in rules that you made without
+ * this call.
+ *   SW_FOUND       done
+ *   SW_REFUSED     first the offer (8, 9), then the table (8, 31, with told->offset); `rules` stay as they are
+ *   SW_NO_MEMORY   `rules` stay as they are */
+int32_t sw_rules_new(const uint8_t *offer, size_t offer_len, const uint8_t *fallbacks, size_t fallbacks_len,
+                     sw_rules *rules, sw_told *told); /* since 0.4 */
+
+/* Leaves rules of zeros, which borrow nothing. */
+void sw_rules_free(sw_rules *rules); /* since 0.4 */
+
 /* Which of some languages a reader gets (RFC 4647 section 3.4). `tags` are the languages there are: language tags in
  * any case, or `@none`, one on a line, with or without an LF (a byte 10) after the last; no bytes at all are no tags.
  * `dflt` is the language for readers who get no other, or nothing. The answer is the tag as it is in `tags`, at most
@@ -102,12 +137,14 @@ uint32_t sw_version(void); /* since 0.2 */
  *   SW_FOUND     lookup finds a tag; or it finds none, and the default is among the tags and the field does not
  *                exclude it: then told->count is 1
  *   SW_NOTHING   neither
- *   SW_REFUSED   first the default (1 to 4), then the field (8, 9), then the tags in their order (1 to 4; a line
- *                without bytes is 1); told->offset counts from the first byte of the default, the field or that tag
+ *   SW_REFUSED   first the default (1 to 4), then the offer (8, 9), the table (8, 31) and the field (8, 9), then the
+ *                tags in their order (1 to 4; a line without bytes is 1); told->offset counts from the first byte of
+ *                what is refused, and of the tags from that of the tag
  * If a request has no Accept-Language, pass `*`; an empty field is an empty list. Both find the default alone: so let
  * the default be your first language. A field has at most 65,535 bytes (8). */
-int32_t sw_pick(uint32_t flags, const uint8_t *field, size_t field_len, const uint8_t *tags, size_t tags_len,
-                const uint8_t *dflt, size_t dflt_len, uint8_t *out, size_t out_len, sw_told *told); /* since 0.2 */
+int32_t sw_pick(uint32_t flags, const sw_rules *rules, const uint8_t *field, size_t field_len, const uint8_t *tags,
+                size_t tags_len, const uint8_t *dflt, size_t dflt_len, uint8_t *out, size_t out_len, sw_told *told);
+                /* since 0.4 */
 
 /* Reads a site document into a handle. If the handle is open, its old site is let go once the new one is read, and
  * stays if the document is refused: so a running server takes up a new state. The text is not needed after the call.
@@ -120,32 +157,6 @@ int32_t sw_pick(uint32_t flags, const uint8_t *field, size_t field_len, const ui
 int32_t sw_site_open(const uint8_t *text, size_t text_len, sw_site *site, sw_told *told);
                      /* since 0.2, reads a site document */
 
-/* ---- What readers are offered.
- *
- * A site has more than is published: notes of translators in languages of private use (x-note), a translation that is
- * not done yet. So each question of a reader takes `rules`, which say what is offered. It is answered as that question
- * of the site without the labels that are not offered; a default is answered only if it is offered too.
- * The rules have an offer. One of length 0 stands for `*, x;q=0`: all languages but those of private use. Any other is
- * a field that is read as an Accept-Language field is, without SW_LENIENT. It offers a language if filtering by it
- * takes the language (RFC 4647 section 3.3.1): `*` all, `en, fr` these and what they begin, `*, ja;q=0` all but
- * Japanese. Labels without a language, `@none`, are always offered.
- * The rules borrow the text of their offer: it is yours, and stays as it is while the rules are used. Any threads may
- * ask by the same rules at once. Rules of zeros (`sw_rules rules = {0};`), and NULL in their place, have an offer of
- * length 0. */
-typedef struct sw_rules {
-  const uint8_t *offer;
-  size_t offer_len;
-} sw_rules;
-
-/* Makes the rules of an offer. A question refuses the offer of rules that you made without this call.
- *   SW_FOUND       done
- *   SW_REFUSED     the offer (8, 9); `rules` stay as they are
- *   SW_NO_MEMORY   `rules` stay as they are */
-int32_t sw_rules_new(const uint8_t *offer, size_t offer_len, sw_rules *rules, sw_told *told); /* since 0.4 */
-
-/* Leaves rules with an offer of length 0, which borrow nothing. */
-void sw_rules_free(sw_rules *rules); /* since 0.4 */
-
 /* The label of a message that a reader gets (RFC 4647 section 3.4), over the languages that are offered and in which
  * the message has one.
  * `id` is the message, `dflt` as in sw_pick. The answer is the line of the command `lookup`, with its LF: `matched
@@ -153,8 +164,8 @@ void sw_rules_free(sw_rules *rules); /* since 0.4 */
  *   SW_FOUND     a label is found
  *   SW_NOTHING   none is; the answer is the line `nothing`
  *   SW_USAGE     also if the handle is not open
- *   SW_REFUSED   first the id (10, also if it is not UTF-8), then the default (1 to 4), then the offer and
- *                the field (8, 9)
+ *   SW_REFUSED   first the id (10, also if it is not UTF-8), then the default (1 to 4), then the offer (8, 9), the
+ *                table (8, 31) and the field (8, 9)
  * A message that the site does not have is SW_NOTHING. */
 int32_t sw_site_lookup(sw_site *site, const sw_rules *rules, uint32_t flags, const uint8_t *id, size_t id_len,
                        const uint8_t *field, size_t field_len, const uint8_t *dflt, size_t dflt_len, uint8_t *out,
@@ -213,12 +224,19 @@ int32_t sw_site_bundle(sw_site *site, const sw_rules *rules, uint32_t flags, con
                        const uint8_t *dflt, size_t dflt_len, uint8_t *out, size_t out_len, sw_told *told);
                        /* since 0.4 */
 
-/* The library itself takes no NULL for `rules`, and these macros pass it rules of zeros then. (So does whoever calls it
- * from another language, or through a pointer.) */
+/* The library itself takes no NULL for `rules`, and these macros pass it what NULL stands for. (So does whoever calls
+ * it from another language, or through a pointer.) */
 static inline const sw_rules *sw_rules_or_none(const sw_rules *rules) {
-  static const sw_rules none = {NULL, 0};
+  static const sw_rules none = {NULL, 0, NULL, 0};
   return rules ? rules : &none;
 }
+static inline const sw_rules *sw_rules_or_all(const sw_rules *rules) {
+  static const sw_rules all = {(const uint8_t *)"*", 1, NULL, 0};
+  return rules ? rules : &all;
+}
+#define SW_ASK_TAGS(call, flags, rules, ...) call(flags, sw_rules_or_all(rules), __VA_ARGS__)
+#define sw_pick(...) SW_ASK_TAGS(sw_pick, __VA_ARGS__)
+#define sw_filter(...) SW_ASK_TAGS(sw_filter, __VA_ARGS__)
 #define SW_ASK_SITE(call, site, rules, ...) call(site, sw_rules_or_none(rules), __VA_ARGS__)
 #define SW_ASK_TEXT(call, text, text_len, rules, ...) call(text, text_len, sw_rules_or_none(rules), __VA_ARGS__)
 #define sw_site_lookup(...) SW_ASK_SITE(sw_site_lookup, __VA_ARGS__)
@@ -334,9 +352,10 @@ int32_t sw_site_changes(sw_site *site, sw_site *other, uint8_t *out, size_t out_
  * is answered twice, and `@none` never.
  *   SW_FOUND     there is at least one
  *   SW_NOTHING   there is none; the answer is the line `filter 0`
- *   SW_REFUSED   first the field (8, 9), then the tags in their order (1 to 4; a line without bytes is 1) */
-int32_t sw_filter(uint32_t flags, const uint8_t *field, size_t field_len, const uint8_t *tags, size_t tags_len,
-                  uint8_t *out, size_t out_len, sw_told *told); /* since 0.3 */
+ *   SW_REFUSED   first the offer, then the field (each 8, 9), then the tags in their order (1 to 4; a line without
+ *                bytes is 1) */
+int32_t sw_filter(uint32_t flags, const sw_rules *rules, const uint8_t *field, size_t field_len, const uint8_t *tags,
+                  size_t tags_len, uint8_t *out, size_t out_len, sw_told *told); /* since 0.4 */
 
 /* What a refusal means, by its number: a sentence on what was wanted, without an end mark, of at most 255 bytes.
  *   SW_FOUND     there is one

@@ -14,13 +14,12 @@ use Rattle.front_core.specs.OpenSite.{RefusesPutInto, RefusesTake, IsNewSite, Re
 use Rattle.front_core.specs.OpenSite.{AreUpdated, IsImported, RefusesImport, RefusesUpdates}
 use Rattle.front_core.specs.Exchange.{IsDelta, RefusesDelta, ShowsView}
 use Rattle.front_core.specs.Fault.{field_fault}
-use Rattle.front_core.specs.Offering.{HasOffer, Offers, RefusesOffer}
 use Rattle.front_core.specs.Preferences.{FieldText}
 use Rattle.front_core.specs.Reader.{IsReader, RefusesReader}
 use Rattle.docs_core.specs.Lines.{lines_of}
-use Rattle.front_core.specs.TagPick.{IsPickedTag, RefusesPick}
+use Rattle.front_core.specs.TagPick.{IsPickedOffered, RefusesPickOffered}
 use Rattle.front_core.specs.Refusal.{refusal_of}
-use Rattle.front_core.specs.TagFilter.{IsTagFilter, RefusesTagFilter}
+use Rattle.front_core.specs.TagFilter.{IsOfferedFilter, RefusesOfferedFilter}
 use Rattle.front_core.specs.Translate.{AnswersMissing, AnswersOutdated, AreChangeLines, IsMissing}
 use Rattle.text_docs.specs.Message.{IsCompactSite}
 use Rattle.front_core.specs.Translate.{IsOutdated, RefusesMissing, RefusesOutdated}
@@ -33,7 +32,7 @@ use Rattle.front_c.specs.Question.{checks_of, default_of, field_of, lookup_field
 use Rattle.front_c.specs.Reporting.{Ends, Reports, ReportsAnswer, ReportsDone, ReportsEither}
 use Rattle.front_c.specs.Reporting.{ReportsFault, ReportsLabelText, ReportsNothing, ReportsPicked}
 use Rattle.front_c.specs.Reporting.{ReportsRead, ReportsText, ReportsUsage, Text, answered}
-use Rattle.front_c.specs.Rules.{offer_of}
+use Rattle.front_c.specs.Rules.{AreRules, RefusesRules, offered_by}
 use Rattle.front_c.specs.Status.{found, out_of_memory, usage}
 use Rattle.front_c.specs.declared.rules.Rules.{Rules}
 
@@ -45,18 +44,19 @@ ReportsField field As old new told status =
     MatchOption field (ReportsUsage old new told status) (λ read. As read old new told status)
 
 -- the tag that is picked
-abbrev pub ReportsPick : ℕ → Text → Text → Text → Ends
-ReportsPick flags field tags default =
-    ReportsField (lookup_field_of flags field)
-    (λ read. ReportsEither (IsPickedTag read (default_of default) (lines_of tags))
-    (RefusesPick read (default_of default) (lines_of tags)) ReportsPicked)
+abbrev pub ReportsPick : ℕ → Rules → Text → Text → Text → Ends
+ReportsPick flags rules field tags default =
+    ReportsField (lookup_field_of flags rules.fallbacks.now field)
+    (λ read. ReportsEither
+    (IsPickedOffered (offered_by rules) read (default_of default) (lines_of tags))
+    (RefusesPickOffered (offered_by rules) read (default_of default) (lines_of tags)) ReportsPicked)
 
 -- the lines of the tags that the field takes
-abbrev pub ReportsTagFilter : ℕ → Text → Text → Ends
-ReportsTagFilter flags field tags =
+abbrev pub ReportsTagFilter : ℕ → Rules → Text → Text → Ends
+ReportsTagFilter flags rules field tags =
     ReportsField (field_of flags field)
-    (λ read. ReportsEither (IsTagFilter read (lines_of tags))
-    (RefusesTagFilter read (lines_of tags)) ReportsAnswer)
+    (λ read. ReportsEither (IsOfferedFilter (offered_by rules) read (lines_of tags))
+    (RefusesOfferedFilter (offered_by rules) read (lines_of tags)) ReportsAnswer)
 
 -- ---- questions to a site
 
@@ -78,31 +78,35 @@ ReportsQuestion site Reads Refuses Answers =
     ReportsAsked site (IsAnswer Reads Answers) (RefusesAnswer Reads Refuses)
 
 -- the line of a lookup in the handle's site
-abbrev pub ReportsLookup : Option SiteState → Offers → ℕ → Text → Text → Text → Ends
-ReportsLookup site offers flags id field default =
-    ReportsField (lookup_field_of flags field)
+abbrev pub ReportsLookup : Option SiteState → Rules → ℕ → Text → Text → Text → Ends
+ReportsLookup site rules flags id field default =
+    let offers = offered_by rules in
+    ReportsField (lookup_field_of flags rules.fallbacks.now field)
     (λ read. ReportsQuestion site (IsLookup id offers read (default_of default))
     (RefusesLookup id offers read (default_of default)) (λ asked s. AnswersLookup s.cells asked))
 
 -- the text at a place of the label that a lookup in the handle's site finds
-abbrev pub ReportsLookupText : Option SiteState → Offers → ℕ → Text → Text → Text → ℕ → Ends
-ReportsLookupText site offers flags id field default place =
-    ReportsField (lookup_field_of flags field)
+abbrev pub ReportsLookupText : Option SiteState → Rules → ℕ → Text → Text → Text → ℕ → Ends
+ReportsLookupText site rules flags id field default place =
+    let offers = offered_by rules in
+    ReportsField (lookup_field_of flags rules.fallbacks.now field)
     (λ read. ReportsOpen site
     (λ s. ReportsEither (IsLookupText s.cells id offers read (default_of default) place)
     (RefusesLookup id offers read (default_of default)) ReportsLabelText))
 
 -- the lines of a filter of the handle's site
-abbrev pub ReportsFilter : Option SiteState → Offers → ℕ → Text → Text → Ends
-ReportsFilter site offers flags id field =
+abbrev pub ReportsFilter : Option SiteState → Rules → ℕ → Text → Text → Ends
+ReportsFilter site rules flags id field =
+    let offers = offered_by rules in
     ReportsField (field_of flags field)
     (λ read. ReportsQuestion site (IsFilter id offers read) (RefusesFilter id offers read)
     (λ asked s. AnswersFilter s.cells asked))
 
 -- the language maps of what a reader finds in the handle's site
-abbrev pub ReportsBundle : Option SiteState → Offers → ℕ → Text → Text → Ends
-ReportsBundle site offers flags field default =
-    ReportsField (lookup_field_of flags field)
+abbrev pub ReportsBundle : Option SiteState → Rules → ℕ → Text → Text → Ends
+ReportsBundle site rules flags field default =
+    let offers = offered_by rules in
+    ReportsField (lookup_field_of flags rules.fallbacks.now field)
     (λ read. ReportsQuestion site (IsReader offers read (default_of default))
     (RefusesReader offers read (default_of default)) (λ asked s. AnswersBundle s.cells asked))
 
@@ -164,15 +168,17 @@ ReportsWritten text As old new told status = (site : SiteState) → IsCompactSit
     → As (Some site) old new told status
 
 -- whatever the text is, the arguments of a lookup are refused as over a site, or are a question
-abbrev pub ReportsReadLookup : {A : Type 0} → Offers → ℕ → Text → Text → Text → (A → Ends) → Ends
-ReportsReadLookup offers flags id field default As =
-    ReportsField (lookup_field_of flags field)
+abbrev pub ReportsReadLookup : {A : Type 0} → Rules → ℕ → Text → Text → Text → (A → Ends) → Ends
+ReportsReadLookup rules flags id field default As =
+    let offers = offered_by rules in
+    ReportsField (lookup_field_of flags rules.fallbacks.now field)
     (λ read. ReportsRead (IsLookup id offers read (default_of default))
     (RefusesLookup id offers read (default_of default)) As)
 
 -- the same of a filter
-abbrev pub ReportsReadFilter : Offers → ℕ → Text → Text → Ends
-ReportsReadFilter offers flags id field =
+abbrev pub ReportsReadFilter : Rules → ℕ → Text → Text → Ends
+ReportsReadFilter rules flags id field =
+    let offers = offered_by rules in
     ReportsField (field_of flags field)
     (λ read. ReportsRead (IsFilter id offers read) (RefusesFilter id offers read) ReportsAnswer)
 
@@ -215,12 +221,11 @@ ReportsShared site old new status =
 
 -- ---- rules
 
--- the rules have the text of the offer, which reads as one; or they are as they were, since it does
--- not
-abbrev pub ReportsRules : Text → Rules → Rules → Reports
-ReportsRules offer old new told status =
-    (HasOffer (offer_of offer) × (new.offer.now ≡ offer) × ReportsDone told status)
-    ⊎ ((fault : NegoFault) × RefusesOffer (offer_of offer) fault × (new ≡ old)
+-- the rules have these texts; or they are as they were, since the texts make none
+abbrev pub ReportsRules : Text → Text → Rules → Rules → Reports
+ReportsRules offer table old new told status =
+    (AreRules offer table new × ReportsDone told status)
+    ⊎ ((fault : NegoFault) × RefusesRules offer table fault × (new ≡ old)
     × ReportsFault (field_fault fault) told status)
 
 -- ---- edits

@@ -46,14 +46,19 @@ field_of flags text =
     else if flags == 3 then Some (field Extended PassedOver text)
     else None
 
--- how the field of a lookup is read under these flags: 4 widens the lookup besides
-abbrev pub lookup_field_of : ℕ → List ℕ → Option FieldText
-lookup_field_of flags text =
+-- the same for a lookup without a table: 4 widens it besides
+abbrev pub widened_field_of : ℕ → List ℕ → Option FieldText
+widened_field_of flags text =
     if flags == 4 then Some (widened Basic Refused text)
     else if flags == 5 then Some (widened Extended Refused text)
     else if flags == 6 then Some (widened Basic PassedOver text)
     else if flags == 7 then Some (widened Extended PassedOver text)
     else field_of flags text
+
+-- how the field of a lookup by a table of fallbacks is read under these flags
+abbrev pub lookup_field_of : ℕ → List ℕ → List ℕ → Option FieldText
+lookup_field_of flags table text =
+    option_map (λ (f : FieldText). record f { fallbacks = table }) (widened_field_of flags text)
 
 -- an empty default is none
 abbrev pub default_of : List ℕ → Option (List ℕ)

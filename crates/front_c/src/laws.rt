@@ -14,8 +14,11 @@ ghost use Rattle.front_core.specs.OpenSite.{IsTaken, RefusesDelete, RefusesImpor
 ghost use Rattle.front_core.specs.OpenSite.{RefusesPutInto, RefusesTake, RefusesUpdates};
 ghost use Rattle.front_core.specs.Preferences.{FieldText, Text};
 ghost use Rattle.front_core.specs.Reader.{IsReader, RefusesReader};
-ghost use Rattle.front_core.specs.TagFilter.{IsTagFilter, RefusesTagFilter};
-ghost use Rattle.front_core.specs.TagPick.{IsPickLine, RefusesPick};
+ghost use Rattle.front_core.specs.TagFilter.{IsOfferedFilter, IsTagFilter};
+ghost use Rattle.front_core.specs.TagFilter.{RefusesOfferedFilter, RefusesTagFilter};
+ghost use Rattle.front_core.specs.TagPick.{IsPickedOffered, IsPickLine, RefusesPick};
+ghost use Rattle.front_core.specs.TagPick.{RefusesPickOffered};
+ghost use Rattle.front_core.specs.declared.tag_pick.Picked.{Picked};
 ghost use Rattle.front_core.specs.Translate.{IsMissing, IsOutdated, RefusesMissing};
 ghost use Rattle.front_core.specs.Translate.{RefusesOutdated};
 
@@ -54,4 +57,11 @@ pub fn what_is_answered_is_not_refused()
         (RefusesPick field default tags) }
     ensures tags { (field : FieldText) (tags : List Text)
         → IsDecided (HasQuestion (IsTagFilter field tags)) (RefusesTagFilter field tags) }
+    ensures offered_pick { (offers : Offers) (field : FieldText) (default : Option Text)
+        (tags : List Text) → IsDecided
+        ((picked : Picked) × IsPickedOffered offers field default tags picked)
+        (RefusesPickOffered offers field default tags) }
+    ensures offered_tags { (offers : Offers) (field : FieldText) (tags : List Text)
+        → IsDecided (HasQuestion (IsOfferedFilter offers field tags))
+        (RefusesOfferedFilter offers field tags) }
 {}

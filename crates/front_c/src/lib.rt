@@ -4,7 +4,8 @@
 //! - [`sw_pick`] picks a tag for a field.
 //! - [`sw_site_open`] reads a site into a handle, [`sw_site_share`] makes one more handle of it,
 //!   and [`sw_site_free`] releases it.
-//! - [`sw_rules_new`] makes the rules of an offer, and [`sw_rules_free`] ends them.
+//! - [`sw_rules_new`] makes the rules of an offer and a table of fallbacks, and [`sw_rules_free`]
+//!   ends them.
 //! - [`sw_site_lookup`], [`sw_site_text`], [`sw_site_filter`] and [`sw_site_bundle`] put questions
 //!   to a site, of the labels that are offered.
 //! - [`sw_text_lookup`], [`sw_text_text`] and [`sw_text_filter`] put them to the document of a site
@@ -24,9 +25,9 @@
 //! no answer or a refusal, all of it is as it was; the status and the reported length are as with
 //! room. No export has a `requires`: the contract of each holds for whatever it is passed.
 //!
-//! A question of a site has [`Rules`], whose offer is a field too, which is read strictly, as an
-//! Accept-Language field. Without bytes it stands for `*, x;q=0`: all languages but those of
-//! private use.
+//! A question has [`Rules`]. Their offer is a field too, which is read strictly, as an
+//! Accept-Language field; without bytes it stands for `*, x;q=0`: all languages but those of
+//! private use. Their table of fallbacks is that of each lookup.
 //!
 //! The flags of a question are 1, by which its field is a list of extended ranges (RFC 4647 section
 //! 2.2), 2, by which malformed elements of the field are skipped, and, for a lookup alone, 4, by
@@ -49,7 +50,6 @@ ghost use Rattle.front_c.specs.Calls.{ReportsTagFilter};
 ghost use Rattle.front_c.specs.Calls.{ReportsTaken, ReportsUpdated, ReportsView, ReportsWritten};
 ghost use Rattle.front_c.specs.Reporting.{ReportsAnswer, ReportsLabelText};
 ghost use Rattle.front_c.specs.Handles.{site_of};
-ghost use Rattle.front_c.specs.Rules.{offered_by};
 ghost use Rattle.front_core.specs.declared.exchange.View.TheVariants.{Document, Export, Labels};
 ghost use Rattle.front_core.specs.declared.exchange.View.TheVariants.{Status};
 
@@ -76,26 +76,29 @@ use std::alloc::{AllocError, Global};
 use std::mem;
 pub use told::Told;
 
-/// Picks a tag for a field: what lookup (RFC 4647 section 3.4) finds among the tags, as it was
-/// passed in; else the default, where it is not empty, is among the tags and is not refused by the
-/// field. There is one tag on a line.
+/// Picks a tag for a field: what lookup (RFC 4647 section 3.4) finds among the tags that are
+/// offered, as it was passed in; else the default, if it is not empty, is among these tags and is
+/// not refused by the field. There is one tag on a line.
 ///
-/// The reported count is 1 where it is the default. Refused are the default first (1 to 4), then
-/// the field (8, 9), then the tags in their order (1 to 4; a line without bytes is 1).
+/// The reported count is 1 if it is the default. Refused are the default first (1 to 4), then the
+/// offer (8, 9), the table of fallbacks (8, 31) and the field (8, 9), then the tags in their order
+/// (1 to 4; a line without bytes is 1).
 #[unsafe(no_mangle)]
 pub extern "C" fn sw_pick(
     alloc: Global,
     flags: u32,
+    rules: &Rules<'_>,
     field: &[u8],
     tags: &[u8],
     default: &[u8],
     out: &mut [u8],
     told: &mut Told,
 ) -> i32
-    ensures { ReportsPick flags field.now tags.now default.now out.old out.new told.new result }
+    ensures { ReportsPick flags rules.now field.now tags.now default.now out.old out.new told.new
+        result }
 {
-    match lookup_field_of(flags, field) {
-        Some(field) => report_pick(alloc, field, tags, default, out, told),
+    match lookup_field_of(flags, rules.fallbacks, field) {
+        Some(field) => report_pick(alloc, rules.offering(), field, tags, default, out, told),
         None => report_usage(told),
     }
 }
@@ -425,23 +428,25 @@ pub extern "C" fn sw_site_changes(
     }
 }
 
-/// Filters tags, one on a line, by a field (RFC 4647, sections 3.3.1 and 3.3.2): `filter N`, then N
-/// lines `TAG WEIGHT`, with each tag as it was passed in.
+/// Filters the tags that are offered, one on a line, by a field (RFC 4647, sections 3.3.1 and
+/// 3.3.2): `filter N`, then N lines `TAG WEIGHT`, with each tag as it was passed in.
 ///
-/// Refused are the field (8, 9), then the tags in their order (1 to 4; a line without bytes is 1).
+/// Refused are the offer (8, 9), then the field (8, 9), then the tags in their order (1 to 4; a
+/// line without bytes is 1).
 #[unsafe(no_mangle)]
 pub extern "C" fn sw_filter(
     alloc: Global,
     flags: u32,
+    rules: &Rules<'_>,
     field: &[u8],
     tags: &[u8],
     out: &mut [u8],
     told: &mut Told,
 ) -> i32
-    ensures { ReportsTagFilter flags field.now tags.now out.old out.new told.new result }
+    ensures { ReportsTagFilter flags rules.now field.now tags.now out.old out.new told.new result }
 {
     match field_of(flags, field) {
-        Some(field) => report(filter_tags(alloc, field, tags), out, told),
+        Some(field) => report(filter_tags(alloc, rules.offering(), field, tags), out, told),
         None => report_usage(told),
     }
 }
@@ -483,18 +488,20 @@ pub extern "C" fn sw_refusal_text(number: u32, out: &mut [u8], told: &mut Told) 
     }
 }
 
-/// Makes the rules of an offer, which is read here for its refusals (8, 9, 26); where one comes the
-/// rules are as they were. They borrow the text.
+/// Makes the rules of an offer and a table of fallbacks, which are read here for their refusals: the
+/// offer first (8, 9), then the table (8, 31), or out of memory (26). If one comes the rules are as
+/// they were. They borrow both texts.
 #[unsafe(no_mangle)]
 pub extern "C" fn sw_rules_new<'a>(
     alloc: Global,
     offer: &'a [u8],
+    fallbacks: &'a [u8],
     rules: &mut Rules<'a>,
     told: &mut Told,
 ) -> i32
-    ensures { ReportsRules offer.now rules.old rules.new told.new result }
+    ensures { ReportsRules offer.now fallbacks.now rules.old rules.new told.new result }
 {
-    match Rules::read(alloc, offer) {
+    match Rules::read(alloc, offer, fallbacks) {
         Ok(read) => {
             *rules = read;
             report_done(told)
@@ -503,18 +510,22 @@ pub extern "C" fn sw_rules_new<'a>(
     }
 }
 
-/// Leaves the rules with an empty offer. They own no memory.
+/// Leaves the rules with an empty offer and an empty table. They own no memory.
 #[unsafe(no_mangle)]
 pub extern "C" fn sw_rules_free<'a>(rules: &mut Rules<'a>)
-    ensures { rules.new.offer.now ≡ [] }
+    ensures { (rules.new.offer.now ≡ []) × (rules.new.fallbacks.now ≡ []) }
 {
-    rules.offer = &[];
+    *rules = Rules {
+        offer: &[],
+        fallbacks: &[],
+    };
 }
 
 /// Looks up the label of a message for a field (RFC 4647 section 3.4), or that of the default, and
 /// answers the line of the command `lookup`, of the labels that are offered.
 ///
-/// Refused are the id (10), the default (1 to 4), the offer, then the field (each 8, 9).
+/// Refused are the id (10), the default (1 to 4), the offer (8, 9), the table of
+/// fallbacks (8, 31), then the field (8, 9).
 #[unsafe(no_mangle)]
 pub extern "C" fn sw_site_lookup(
     alloc: Global,
@@ -528,10 +539,10 @@ pub extern "C" fn sw_site_lookup(
     told: &mut Told,
 ) -> i32
     ensures site { site.new.value ≡ site.old.value }
-    ensures answer { ReportsLookup (site_of site.old) (offered_by rules.now) flags id.now field.now
+    ensures answer { ReportsLookup (site_of site.old) rules.now flags id.now field.now
         default.now out.old out.new told.new result }
 {
-    match lookup_field_of(flags, field) {
+    match lookup_field_of(flags, rules.fallbacks, field) {
         Some(field) => {
             let asked = Lookup::read(alloc, id, rules.offering(), field, default_of(default));
             ask(alloc, site, asked, out, told)
@@ -558,10 +569,10 @@ pub extern "C" fn sw_site_text(
     told: &mut Told,
 ) -> i32
     ensures site { site.new.value ≡ site.old.value }
-    ensures answer { ReportsLookupText (site_of site.old) (offered_by rules.now) flags id.now
+    ensures answer { ReportsLookupText (site_of site.old) rules.now flags id.now
         field.now default.now place out.old out.new told.new result }
 {
-    let Some(field) = lookup_field_of(flags, field) else {
+    let Some(field) = lookup_field_of(flags, rules.fallbacks, field) else {
         return report_usage(told);
     };
     let Some(held) = site.open() else {
@@ -589,7 +600,7 @@ pub extern "C" fn sw_site_filter(
     told: &mut Told,
 ) -> i32
     ensures site { site.new.value ≡ site.old.value }
-    ensures answer { ReportsFilter (site_of site.old) (offered_by rules.now) flags id.now field.now
+    ensures answer { ReportsFilter (site_of site.old) rules.now flags id.now field.now
         out.old out.new told.new result }
 {
     match field_of(flags, field) {
@@ -607,7 +618,8 @@ pub extern "C" fn sw_site_filter(
 /// Looks up the one label of each message for a field, or that of the default, and answers the
 /// language maps of the command `bundle`.
 ///
-/// Refused are the default (1 to 4), the offer, then the field (each 8, 9).
+/// Refused are the default (1 to 4), the offer (8, 9), the table of
+/// fallbacks (8, 31), then the field (8, 9).
 #[unsafe(no_mangle)]
 pub extern "C" fn sw_site_bundle(
     alloc: Global,
@@ -620,10 +632,10 @@ pub extern "C" fn sw_site_bundle(
     told: &mut Told,
 ) -> i32
     ensures site { site.new.value ≡ site.old.value }
-    ensures answer { ReportsBundle (site_of site.old) (offered_by rules.now) flags field.now
+    ensures answer { ReportsBundle (site_of site.old) rules.now flags field.now
         default.now out.old out.new told.new result }
 {
-    match lookup_field_of(flags, field) {
+    match lookup_field_of(flags, rules.fallbacks, field) {
         Some(field) => {
             let asked = Reader::read(alloc, rules.offering(), field, default_of(default));
             ask(alloc, site, asked, out, told)
@@ -651,12 +663,12 @@ pub extern "C" fn sw_text_lookup(
     out: &mut [u8],
     told: &mut Told,
 ) -> i32
-    ensures written { ReportsWritten text.now (λ site. ReportsLookup site (offered_by rules.now)
+    ensures written { ReportsWritten text.now (λ site. ReportsLookup site rules.now
         flags id.now field.now default.now) out.old out.new told.new result }
-    ensures read { ReportsReadLookup (offered_by rules.now) flags id.now field.now default.now
+    ensures read { ReportsReadLookup rules.now flags id.now field.now default.now
         ReportsAnswer out.old out.new told.new result }
 {
-    let Some(field) = lookup_field_of(flags, field) else {
+    let Some(field) = lookup_field_of(flags, rules.fallbacks, field) else {
         return report_usage(told);
     };
     match Lookup::read(alloc, id, rules.offering(), field, default_of(default)) {
@@ -682,12 +694,12 @@ pub extern "C" fn sw_text_text(
     told: &mut Told,
 ) -> i32
     ensures written { ReportsWritten text.now (λ site. ReportsLookupText site
-        (offered_by rules.now) flags id.now field.now default.now place) out.old out.new told.new
+        rules.now flags id.now field.now default.now place) out.old out.new told.new
         result }
-    ensures read { ReportsReadLookup (offered_by rules.now) flags id.now field.now default.now
+    ensures read { ReportsReadLookup rules.now flags id.now field.now default.now
         ReportsLabelText out.old out.new told.new result }
 {
-    let Some(field) = lookup_field_of(flags, field) else {
+    let Some(field) = lookup_field_of(flags, rules.fallbacks, field) else {
         return report_usage(told);
     };
     match Lookup::read(alloc, id, rules.offering(), field, default_of(default)) {
@@ -711,9 +723,9 @@ pub extern "C" fn sw_text_filter(
     out: &mut [u8],
     told: &mut Told,
 ) -> i32
-    ensures written { ReportsWritten text.now (λ site. ReportsFilter site (offered_by rules.now)
+    ensures written { ReportsWritten text.now (λ site. ReportsFilter site rules.now
         flags id.now field.now) out.old out.new told.new result }
-    ensures read { ReportsReadFilter (offered_by rules.now) flags id.now field.now out.old out.new
+    ensures read { ReportsReadFilter rules.now flags id.now field.now out.old out.new
         told.new result }
 {
     let Some(field) = field_of(flags, field) else {

@@ -2,7 +2,7 @@
 ghost use Rattle.std.specs.Prelude.{◌≡◌, option_map};
 ghost use Rattle.front_core.specs.Preferences.{field_text};
 ghost use Rattle.front_c.specs.Question.{checks_of, default_of, field_of, limit_of};
-ghost use Rattle.front_c.specs.Question.{lookup_field_of, own_edits_of, shows_of};
+ghost use Rattle.front_c.specs.Question.{lookup_field_of, own_edits_of, shows_of, widened_field_of};
 
 use docs_core::{Checks, OwnEdits, Shows};
 use front_core::Field;
@@ -30,22 +30,20 @@ pub(crate) fn field_of(flags: u32, text: &[u8]) -> Option<Field<'_>>
 }
 
 /// How the field of a lookup is read under these flags, or none if one of them is unknown: as
-/// [`field_of`] says, and 4 widens the lookup.
-pub(crate) fn lookup_field_of(flags: u32, text: &[u8]) -> Option<Field<'_>>
-    ensures { option_map field_text result ≡ lookup_field_of flags text.now }
+/// [`field_of`] says, and 4 widens the lookup, which goes by a table of fallbacks.
+pub(crate) fn lookup_field_of<'a>(
+    flags: u32,
+    fallbacks: &'a [u8],
+    text: &'a [u8],
+) -> Option<Field<'a>>
+    ensures { option_map field_text result ≡ lookup_field_of flags fallbacks.now text.now }
 {
-    let (scheme, malformed) = match flags {
-        4 => (Scheme::Basic, Malformed::Refused),
-        5 => (Scheme::Extended, Malformed::Refused),
-        6 => (Scheme::Basic, Malformed::PassedOver),
-        7 => (Scheme::Extended, Malformed::PassedOver),
-        _ => return field_of(flags, text),
-    };
+    let field = widened_field_of(flags, text)?;
     Some(Field {
-        scheme,
-        malformed,
-        widening: Widening::By(scheme),
-        fallbacks: &[],
+        scheme: field.scheme,
+        malformed: field.malformed,
+        widening: field.widening,
+        fallbacks,
         text,
     })
 }
@@ -78,6 +76,26 @@ pub(crate) fn shows_of(flags: u32) -> Option<Shows>
         16 => Some(Shows::Labels),
         _ => None,
     }
+}
+
+/// The same field without a table.
+fn widened_field_of(flags: u32, text: &[u8]) -> Option<Field<'_>>
+    ensures { option_map field_text result ≡ widened_field_of flags text.now }
+{
+    let (scheme, malformed) = match flags {
+        4 => (Scheme::Basic, Malformed::Refused),
+        5 => (Scheme::Extended, Malformed::Refused),
+        6 => (Scheme::Basic, Malformed::PassedOver),
+        7 => (Scheme::Extended, Malformed::PassedOver),
+        _ => return field_of(flags, text),
+    };
+    Some(Field {
+        scheme,
+        malformed,
+        widening: Widening::By(scheme),
+        fallbacks: &[],
+        text,
+    })
 }
 
 /// Whether an exchange tests the site's own edits, or none if a flag is unknown.

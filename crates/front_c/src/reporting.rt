@@ -5,7 +5,8 @@ ghost use Rattle.front_core.specs.Ask.{AnswersText, IsAnswer, IsNoMemory, Refuse
 ghost use Rattle.text_docs.specs.Message.{IsCompactSite};
 ghost use Rattle.front_core.specs.Preferences.{field_text};
 ghost use Rattle.docs_core.specs.Lines.{lines_of};
-ghost use Rattle.front_core.specs.TagPick.{IsPickedTag, RefusesPick};
+ghost use Rattle.front_core.specs.Offering.{offers_of};
+ghost use Rattle.front_core.specs.TagPick.{IsPickedOffered, RefusesPickOffered};
 ghost use Rattle.front_core.specs.Refusal.{refusal_of, refusal_texts};
 ghost use Rattle.front_c.specs.Calls.{IsHeld, IsShared, ReportsAsked};
 ghost use Rattle.front_c.specs.Handles.{site_of};
@@ -22,8 +23,8 @@ use crate::question::default_of;
 use crate::status;
 use crate::told::Told;
 use front_core::{
-    Answer, Field, FrontFault, LabelText, Lookup, OpenSite, Picked, Question, Refusal, SiteIn,
-    explain, message_in, pick,
+    Answer, Field, FrontFault, LabelText, Lookup, Offering, OpenSite, Picked, Question, Refusal,
+    SiteIn, explain, message_in, pick,
 };
 use std::alloc::Global;
 use std::mem;
@@ -102,18 +103,19 @@ pub(crate) fn report(answer: Result<Answer, FrontFault>, out: &mut [u8], told: &
 /// Reports the tag that a field picks, or a refusal.
 pub(crate) fn report_pick(
     alloc: Global,
+    offering: Offering<'_>,
     field: Field<'_>,
     tags: &[u8],
     default: &[u8],
     out: &mut [u8],
     told: &mut Told,
 ) -> i32
-    ensures { ReportsEither (IsPickedTag (field_text field.entry) (default_of default.now)
-        (lines_of tags.now))
-        (RefusesPick (field_text field.entry) (default_of default.now) (lines_of tags.now))
-        ReportsPicked out.old out.new told.new result }
+    ensures { ReportsEither (IsPickedOffered (offers_of offering.entry) (field_text field.entry)
+        (default_of default.now) (lines_of tags.now))
+        (RefusesPickOffered (offers_of offering.entry) (field_text field.entry)
+        (default_of default.now) (lines_of tags.now)) ReportsPicked out.old out.new told.new result }
 {
-    match pick(alloc, field, default_of(default), tags) {
+    match pick(alloc, offering, field, default_of(default), tags) {
         Ok(picked) => report_picked(picked, out, told),
         Err(fault) => report_refusal(&fault, told),
     }

@@ -3,7 +3,7 @@ use Rattle.std.specs.Prelude.{◌⊎◌, Option}
 use Rattle.front_core.specs.Fault.{IsOf, field_fault, language_fault}
 use Rattle.front_core.specs.Offering.{HasOffer, IsOffer, Offers, RefusesOffer}
 use Rattle.front_core.specs.Preferences.{ArePreferences, FieldText, HasDefault, RefusesDefault}
-use Rattle.front_core.specs.Preferences.{RefusesRanges, Text}
+use Rattle.front_core.specs.Preferences.{HasPreferences, RefusesRanges, Text}
 use Rattle.front_core.specs.declared.fault.FrontFault.{FrontFault}
 use Rattle.front_core.specs.declared.reader.Reader.{Reader}
 
@@ -11,6 +11,11 @@ use Rattle.front_core.specs.declared.reader.Reader.{Reader}
 abbrev pub IsReader : Offers → FieldText → Option Text → Reader → Type 0
 IsReader offers field word asked =
     IsOffer offers asked.offer × ArePreferences field word asked.preferences
+
+-- the offer has items, the field is read as some list, and there is no default, or it spells a
+-- language
+abbrev pub HasReader : Offers → FieldText → Option Text → Type 0
+HasReader offers field word = HasOffer offers × HasPreferences field word
 
 -- the default is refused first, then the offer, and then the field
 abbrev pub RefusesReader : Offers → FieldText → Option Text → FrontFault → Type 0

@@ -10,7 +10,8 @@ use Rattle.query_docs.specs.Lines.{line, listed}
 use Rattle.front_core.specs.Fault.{IsOf, field_fault, language_fault}
 use Rattle.front_core.specs.Preferences.{FieldText, HasList, ReadsAs, RefusesRanges, Text}
 use Rattle.front_core.specs.Ask.{is_found}
-use Rattle.front_core.specs.Tags.{RefusesTags, SpellLangs}
+use Rattle.front_core.specs.Offering.{HasOffer, IsOffer, Offers, RefusesOffer}
+use Rattle.front_core.specs.Tags.{AreLangs, RefusesTags, SpellLangs, offered_tags}
 use Rattle.front_core.specs.declared.answer.Answer.{Answer}
 use Rattle.front_core.specs.declared.fault.FrontFault.{FrontFault}
 
@@ -39,6 +40,12 @@ abbrev pub IsTagFilter : FieldText → List Text → Answer → Type 0
 IsTagFilter field tags answer = (langs : List Text) × (picks : List Pick)
     × AreTaken field tags langs picks × ShowsTaken tags picks answer
 
+-- the same of the tags that are offered; each tag spells a language
+abbrev pub IsOfferedFilter : Offers → FieldText → List Text → Answer → Type 0
+IsOfferedFilter offers field tags answer = AreLangs tags
+    × ((items : List Item) × IsOffer offers items
+    × IsTagFilter field (offered_tags items tags) answer)
+
 -- each tag in lower case, which is its language
 abbrev pub IsLangFilter : FieldText → List Text → Answer → Type 0
 IsLangFilter field tags answer = (langs : List Text) × (picks : List Pick)
@@ -48,6 +55,11 @@ IsLangFilter field tags answer = (langs : List Text) × (picks : List Pick)
 abbrev pub RefusesTagFilter : FieldText → List Text → FrontFault → Type 0
 RefusesTagFilter field tags fault = IsOf field_fault (RefusesRanges field) fault
     ⊎ (HasList field × IsOf language_fault (RefusesTags tags) fault)
+
+-- the offer is refused first, then the field, and then the tags, also those that are not offered
+abbrev pub RefusesOfferedFilter : Offers → FieldText → List Text → FrontFault → Type 0
+RefusesOfferedFilter offers field tags fault = IsOf field_fault (RefusesOffer offers) fault
+    ⊎ (HasOffer offers × RefusesTagFilter field tags fault)
 
 -- the texts of what is borrowed
 abbrev pub texts_of : List (Bor Text) → List Text

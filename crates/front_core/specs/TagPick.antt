@@ -12,8 +12,10 @@ use Rattle.nego_core.specs.declared.widening.Widening.{Widening}
 use Rattle.nego_core.specs.declared.lookup_places.Found.{Found}
 use Rattle.front_core.specs.Fault.{IsOf, language_fault}
 use Rattle.front_core.specs.Preferences.{FieldText, ReadsAs, Text, HasPreferences, IsDefault}
+use Rattle.front_core.specs.Offering.{IsOffer, Offers}
 use Rattle.front_core.specs.Preferences.{RefusesPreferences}
-use Rattle.front_core.specs.Tags.{RefusesTags, SpellLangs}
+use Rattle.front_core.specs.Reader.{HasReader, RefusesReader}
+use Rattle.front_core.specs.Tags.{AreLangs, RefusesTags, SpellLangs, offered_tags}
 use Rattle.front_core.specs.declared.answer.Answer.{Answer}
 use Rattle.front_core.specs.declared.answer.Outcome.{Outcome}
 use Rattle.front_core.specs.declared.fault.FrontFault.{FrontFault}
@@ -53,6 +55,12 @@ IsPickedTag field word tags (picked.Default tag) = (lang : List ℕ)
     × IsPicked field word tags (Default lang) × IsFirst (λ t. SpellsLang t lang) tags tag.now
 IsPickedTag field word tags picked.Nothing = IsPicked field word tags Nothing
 
+-- the first of those that are offered; each tag spells a language
+abbrev pub IsPickedOffered : Offers → FieldText → Option Text → List Text → Picked → Type 0
+IsPickedOffered offers field word tags picked = AreLangs tags
+    × ((items : List Item) × IsOffer offers items
+    × IsPickedTag field word (offered_tags items tags) picked)
+
 -- there is a tag at the place that is found
 abbrev pub HasPlace : List Text → Found → Type 0
 HasPlace tags (found.Matched place) = place < length tags
@@ -70,6 +78,12 @@ IsTagAt _ _ _ = ⊥
 abbrev pub RefusesPick : FieldText → Option Text → List Text → FrontFault → Type 0
 RefusesPick field word tags fault = RefusesPreferences field word fault
     ⊎ (HasPreferences field word × IsOf language_fault (RefusesTags tags) fault)
+
+-- the default is refused first, then the offer, then the field, and then the tags, also those that
+-- are not offered
+abbrev pub RefusesPickOffered : Offers → FieldText → Option Text → List Text → FrontFault → Type 0
+RefusesPickOffered offers field word tags fault = RefusesReader offers field word fault
+    ⊎ (HasReader offers field word × IsOf language_fault (RefusesTags tags) fault)
 
 -- the pick line (project rule)
 abbrev pub pick_line : Finding → List ℕ

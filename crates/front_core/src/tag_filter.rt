@@ -4,36 +4,47 @@ ghost use Rattle.std.specs.Prelude.{MatchResult};
 ghost use Rattle.query_docs.specs.Lines.{line};
 ghost use Rattle.front_core.specs.Preferences.{field_text};
 ghost use Rattle.docs_core.specs.Lines.{lines_of};
-ghost use Rattle.front_core.specs.TagFilter.{HaveNames, IsTagFilter, RefusesTagFilter, ShowsTaken};
-ghost use Rattle.front_core.specs.TagFilter.{texts_of};
+ghost use Rattle.front_core.specs.Offering.{offers_of};
+ghost use Rattle.front_core.specs.TagFilter.{HaveNames, IsOfferedFilter, RefusesOfferedFilter};
+ghost use Rattle.front_core.specs.TagFilter.{ShowsTaken, texts_of};
 
 use crate::answer::{Answer, Outcome};
 use crate::fault::FrontFault;
+use crate::offering::Offering;
 use crate::preferences::Field;
 use crate::tags::read_lines;
-use docs_core::{Doc, Lines};
+use docs_core::Doc;
 use itoa::Buffer;
 use nego_core::{Picks, filter};
 use std::alloc::{AllocError, Global};
 
-/// All tags that a field takes (RFC 4647 section 3.3), one on a line, best first: `filter N`, then
-/// N lines `TAG WEIGHT`, with the tag as it was passed in and the weight in thousandths.
+/// All tags that are offered and that a field takes (RFC 4647 section 3.3), one on a line, best
+/// first: `filter N`, then N lines `TAG WEIGHT`, with the tag as it was passed in and the weight in
+/// thousandths.
 ///
 /// By descending weight, then by the item's place in the field, the tag in lower case and its
 /// place. A tag that is there twice is answered twice, and `@none` never. A line feed ends each
 /// line of `tags`, and may be missing after the last.
 ///
-/// Refused are the field first (8, and 9 where a malformed element refuses it), then each tag in
-/// order (1 to 4; a line without bytes is 1). Out of memory (26) may come before a later refusal.
-pub fn filter_tags(alloc: Global, field: Field<'_>, tags: &[u8]) -> Result<Answer, FrontFault>
-    ensures { MatchResult result (IsTagFilter (field_text field.entry) (lines_of tags.now))
-        (RefusesTagFilter (field_text field.entry) (lines_of tags.now)) }
+/// Refused are the offer first (8, 9), then the field (8, and 9 where a malformed element refuses
+/// it), then each tag in order (1 to 4; a line without bytes is 1). Out of memory (26) may come
+/// before a later refusal.
+pub fn filter_tags(
+    alloc: Global,
+    offering: Offering<'_>,
+    field: Field<'_>,
+    tags: &[u8],
+) -> Result<Answer, FrontFault>
+    ensures { MatchResult result (IsOfferedFilter (offers_of offering.entry)
+        (field_text field.entry) (lines_of tags.now))
+        (RefusesOfferedFilter (offers_of offering.entry) (field_text field.entry)
+        (lines_of tags.now)) }
 {
+    let offer = offering.read(alloc)?;
     let list = field.read(alloc)?;
-    let langs = read_lines(alloc, tags)?;
-    let picks = filter(alloc, &list, field.scheme, &langs)?;
-    let names = names_of(alloc, tags)?;
-    Ok(taken(alloc, &picks, &names)?)
+    let offered = read_lines(alloc, offer.offer(), tags)?;
+    let picks = filter(alloc, &list, field.scheme, &offered.langs)?;
+    Ok(taken(alloc, &picks, &offered.names)?)
 }
 
 /// The lines of what is picked, each by the name at its place.
@@ -50,13 +61,6 @@ pub(crate) fn taken(alloc: Global, picks: &Picks, names: &[&[u8]]) -> Result<Ans
     }
     let outcome = Outcome::of(!picks.is_empty());
     Ok(Answer::new(Doc::from(text), outcome))
-}
-
-/// The lines of a text, in order.
-fn names_of(alloc: Global, tags: &[u8]) -> Result<Vec<&[u8]>, AllocError>
-    ensures { IfOk result (λ names. texts_of names.items ≡ lines_of tags.now) }
-{
-    Lines::new(tags).collect(alloc)
 }
 
 /// The name at a place.

@@ -1,23 +1,43 @@
 //! The languages that tags spell.
 ghost use Rattle.std.specs.Prelude.{map, MatchResult};
 ghost use Rattle.docs_core.specs.Lines.{lines_of};
-ghost use Rattle.front_core.specs.Tags.{RefusesTags, SpellLangs};
+ghost use Rattle.nego_core.specs.Offer.{items_of};
+ghost use Rattle.front_core.specs.TagFilter.{texts_of};
+ghost use Rattle.front_core.specs.Tags.{AreOffered, RefusesTags, SpellLangs};
 
 use docs_core::Lines;
 use lang_core::{Lang, LangFault};
+use nego_core::Offer;
 use std::alloc::Global;
 use std::convert::AsStr;
 
-/// The languages of the lines of a text, in order. The first line that is none is refused (1 to 4).
-pub(crate) fn read_lines(alloc: Global, tags: &[u8]) -> Result<Vec<Lang>, LangFault>
-    ensures { MatchResult result (λ langs. SpellLangs (lines_of tags.now) langs.items)
-        (RefusesTags (lines_of tags.now)) }
+/// Tags that are offered, as they were passed in, and the languages that they spell, in step.
+#[derive(Drop)]
+pub(crate) struct OfferedTags<'a> {
+    pub names: Vec<&'a [u8]>,
+    pub langs: Vec<Lang>,
+}
+
+/// The lines of a text whose languages are offered, in order. The first line that is no language is
+/// refused (1 to 4).
+pub(crate) fn read_lines<'a>(
+    alloc: Global,
+    offer: Offer<'_>,
+    tags: &'a [u8],
+) -> Result<OfferedTags<'a>, LangFault>
+    ensures { MatchResult result (λ offered. AreOffered (items_of offer.entry) (lines_of tags.now)
+        (texts_of offered.names.items) offered.langs.items) (RefusesTags (lines_of tags.now)) }
 {
+    let mut names = Vec::new(alloc);
     let mut langs = Vec::new(alloc);
     for line in Lines::new(tags) {
-        langs.push(Lang::parse(alloc, line)?)?;
+        let lang = Lang::parse(alloc, line)?;
+        if offer.offers(&lang) {
+            names.push(line)?;
+            langs.push(lang)?;
+        }
     }
-    Ok(langs)
+    Ok(OfferedTags { names, langs })
 }
 
 /// The languages of arguments, in order. The first argument that is none is refused (1 to 4).

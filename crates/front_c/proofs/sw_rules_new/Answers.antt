@@ -5,4 +5,4 @@ use Rattle.front_c.proofs.sw_rules_new.Goals as goal
 pub returns-in-Ok : goal.returns-in-Ok
 returns-in-Ok c =
     let same : to_z w32 (of_z w32 c.report_done.result) ≡ c.report_done.result = search rules in
-    rw same (inl (c.in-Ok.ensures.0, c.in-Ok.ensures.1, c.report_done.ensures))
+    rw same (inl (c.in-Ok.ensures, c.report_done.ensures))

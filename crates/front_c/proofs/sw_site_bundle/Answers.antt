@@ -15,7 +15,7 @@ returns-in-Some-clause-answer c =
     let offers = offered_by c.args.rules.now in
     let default = default_of c.args.default.now in
     let read = field_text c.in-Some.field in
-    field_as (lookup_field_of c.args.flags c.args.field.now)
+    field_as (lookup_field_of c.args.flags c.args.rules.now.fallbacks.now c.args.field.now)
     (λ f. ReportsQuestion site (IsReader offers f default) (RefusesReader offers f default)
     (λ asked s. AnswersBundle s.cells asked))
     read c.args.out.now c.ask.new.out c.ask.new.told _ (search rules)

@@ -17,7 +17,7 @@ returns-in-Ok-clause-answer c =
     let offers = offered_by c.args.rules.now in
     let default = default_of c.args.default.now in
     let read = field_text c.in-Some.field in
-    field_as (lookup_field_of c.args.flags c.args.field.now)
+    field_as (lookup_field_of c.args.flags c.args.rules.now.fallbacks.now c.args.field.now)
     (λ f. ReportsOpen site (λ s. ReportsEither
     (IsLookupText s.cells id offers f default c.args.place)
     (RefusesLookup id offers f default) ReportsLabelText))
@@ -44,7 +44,7 @@ returns-in-Err-clause-answer c =
     let offers = offered_by c.args.rules.now in
     let default = default_of c.args.default.now in
     let read = field_text c.in-Some.field in
-    field_as (lookup_field_of c.args.flags c.args.field.now)
+    field_as (lookup_field_of c.args.flags c.args.rules.now.fallbacks.now c.args.field.now)
     (λ f. ReportsOpen site (λ s. ReportsEither
     (IsLookupText s.cells id offers f default c.args.place)
     (RefusesLookup id offers f default) ReportsLabelText))

@@ -17,7 +17,7 @@ returns-in-Ok-clause-written c = λ site written.
     let read = field_text c.in-Some.field in
     let same : to_z w32 (of_z w32 c.report.result) ≡ c.report.result = search rules in
     rw same
-    (field_as (lookup_field_of c.args.flags c.args.field.now)
+    (field_as (lookup_field_of c.args.flags c.args.rules.now.fallbacks.now c.args.field.now)
     (λ f. ReportsQuestion (Some site) (IsLookup id offers f default)
     (RefusesLookup id offers f default)
     (λ asked s. AnswersLookup s.cells asked))
@@ -40,7 +40,7 @@ returns-in-Ok-clause-read c =
     let default = default_of c.args.default.now in
     let same : to_z w32 (of_z w32 c.report.result) ≡ c.report.result = search rules in
     rw same
-    (field_as (lookup_field_of c.args.flags c.args.field.now)
+    (field_as (lookup_field_of c.args.flags c.args.rules.now.fallbacks.now c.args.field.now)
     (λ f. ReportsRead (IsLookup id offers f default)
     (RefusesLookup id offers f default) ReportsAnswer)
     (field_text c.in-Some.field) c.args.out.now c.report.new.out c.report.new.told _ (search rules)
@@ -57,7 +57,7 @@ returns-in-Err-clause-written c = λ site written.
     let offers = offered_by c.args.rules.now in
     let default = default_of c.args.default.now in
     let read = field_text c.in-Some.field in
-    field_as (lookup_field_of c.args.flags c.args.field.now)
+    field_as (lookup_field_of c.args.flags c.args.rules.now.fallbacks.now c.args.field.now)
     (λ f. ReportsQuestion (Some site) (IsLookup id offers f default)
     (RefusesLookup id offers f default)
     (λ asked s. AnswersLookup s.cells asked))
@@ -75,7 +75,7 @@ returns-in-Err-clause-read c =
     let id = c.args.id.now in
     let offers = offered_by c.args.rules.now in
     let default = default_of c.args.default.now in
-    field_as (lookup_field_of c.args.flags c.args.field.now)
+    field_as (lookup_field_of c.args.flags c.args.rules.now.fallbacks.now c.args.field.now)
     (λ f. ReportsRead (IsLookup id offers f default)
     (RefusesLookup id offers f default) ReportsAnswer)
     (field_text c.in-Some.field) c.args.out.now c.args.out.now c.report_refusal.new.told _

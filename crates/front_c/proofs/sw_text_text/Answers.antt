@@ -18,7 +18,7 @@ returns-in-Ok-clause-written c = λ site written.
     let same : to_z w32 (of_z w32 c.report_text_in.result) ≡ c.report_text_in.result = search rules
     in
     rw same
-    (field_as (lookup_field_of c.args.flags c.args.field.now)
+    (field_as (lookup_field_of c.args.flags c.args.rules.now.fallbacks.now c.args.field.now)
     (λ f. ReportsOpen (Some site) (λ s. ReportsEither (IsLookupText s.cells id offers f default
     c.args.place) (RefusesLookup id offers f default) ReportsLabelText))
     read c.args.out.now c.report_text_in.new.out c.report_text_in.new.told _ (search rules)
@@ -36,7 +36,7 @@ returns-in-Ok-clause-read c =
     let same : to_z w32 (of_z w32 c.report_text_in.result) ≡ c.report_text_in.result = search rules
     in
     rw same
-    (field_as (lookup_field_of c.args.flags c.args.field.now)
+    (field_as (lookup_field_of c.args.flags c.args.rules.now.fallbacks.now c.args.field.now)
     (λ f. ReportsRead (IsLookup id offers f default)
     (RefusesLookup id offers f default) ReportsLabelText)
     (field_text c.in-Some.field) c.args.out.now c.report_text_in.new.out c.report_text_in.new.told _
@@ -53,7 +53,7 @@ returns-in-Err-clause-written c = λ site written.
     let offers = offered_by c.args.rules.now in
     let default = default_of c.args.default.now in
     let read = field_text c.in-Some.field in
-    field_as (lookup_field_of c.args.flags c.args.field.now)
+    field_as (lookup_field_of c.args.flags c.args.rules.now.fallbacks.now c.args.field.now)
     (λ f. ReportsOpen (Some site) (λ s. ReportsEither (IsLookupText s.cells id offers f default
     c.args.place) (RefusesLookup id offers f default) ReportsLabelText))
     read c.args.out.now c.args.out.now c.report_refusal.new.told _ (search rules)
@@ -70,7 +70,7 @@ returns-in-Err-clause-read c =
     let id = c.args.id.now in
     let offers = offered_by c.args.rules.now in
     let default = default_of c.args.default.now in
-    field_as (lookup_field_of c.args.flags c.args.field.now)
+    field_as (lookup_field_of c.args.flags c.args.rules.now.fallbacks.now c.args.field.now)
     (λ f. ReportsRead (IsLookup id offers f default)
     (RefusesLookup id offers f default) ReportsLabelText)
     (field_text c.in-Some.field) c.args.out.now c.args.out.now c.report_refusal.new.told _

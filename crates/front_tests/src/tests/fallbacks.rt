@@ -38,15 +38,15 @@ fn assert_line(rt: &impl Abort, answer: Result<Answer, FrontFault>, line: &str) 
 fn tags(rt: HostRuntime) {
     let alloc = rt.alloc();
     let table = "zh-TW=zh-Hant, no=nb";
-    let picked = pick(alloc, by(table, "no, da"), None, b"da\nnb");
+    let picked = pick(alloc, ALL, by(table, "no, da"), None, b"da\nnb");
     assert_eq!(rt; picked, Ok(Picked::Matched(b"nb")));
-    let picked = pick(alloc, by(table, "da"), Some(b"no"), b"nb");
+    let picked = pick(alloc, ALL, by(table, "da"), Some(b"no"), b"nb");
     assert_eq!(rt; picked, Ok(Picked::Nothing));
 }
 
 #[test]
 fn a_table_is_refused_before_a_field(rt: HostRuntime) {
-    let refused = pick(rt.alloc(), by("no=nb, x", "e_n"), None, b"en");
+    let refused = pick(rt.alloc(), ALL, by("no=nb, x", "e_n"), None, b"en");
     assert!(rt; refused == Err(FrontFault::Field(NegoFault::FallbackMalformed { offset: 7 })));
 }
 

@@ -47,9 +47,13 @@ pub(crate) fn assert_refused<T: Drop>(
 fn a_pick_in_order(rt: HostRuntime) {
     let alloc = rt.alloc();
     let tags = b"en\ne\n".as_slice();
-    assert_refused(&rt, pick(alloc, malformed(), Some(b"e"), tags), LANGUAGE);
-    assert_refused(&rt, pick(alloc, malformed(), None, tags), FIELD);
-    assert_refused(&rt, pick(alloc, accept(b"fr"), None, tags), LANGUAGE);
+    assert_refused(
+        &rt,
+        pick(alloc, ALL, malformed(), Some(b"e"), tags),
+        LANGUAGE,
+    );
+    assert_refused(&rt, pick(alloc, ALL, malformed(), None, tags), FIELD);
+    assert_refused(&rt, pick(alloc, ALL, accept(b"fr"), None, tags), LANGUAGE);
 }
 
 const EMPTY: FrontFault = FrontFault::Language(LangFault::TagEmpty);
@@ -58,15 +62,15 @@ const EMPTY: FrontFault = FrontFault::Language(LangFault::TagEmpty);
 fn a_line_without_bytes(rt: HostRuntime) {
     let fr = accept(b"fr");
     for tags in ["\n", "en\n\n", "\nen", "en\n\nfr"] {
-        let picked = pick(rt.alloc(), fr, None, tags.as_bytes());
+        let picked = pick(rt.alloc(), ALL, fr, None, tags.as_bytes());
         assert_eq!(rt; picked, Err(EMPTY), "{tags}");
     }
-    assert_refused(&rt, pick(rt.alloc(), fr, Some(b""), b"en"), EMPTY);
+    assert_refused(&rt, pick(rt.alloc(), ALL, fr, Some(b""), b"en"), EMPTY);
 }
 
 #[test]
 fn a_subtag_is_named_by_its_place(rt: HostRuntime) {
-    let picked = pick(rt.alloc(), accept(b"fr"), None, b"en\nde-ab_c");
+    let picked = pick(rt.alloc(), ALL, accept(b"fr"), None, b"en\nde-ab_c");
     let fault = FrontFault::Language(LangFault::TagSubtag { offset: 3 });
     assert_refused(&rt, picked, fault);
 }

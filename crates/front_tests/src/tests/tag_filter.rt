@@ -1,7 +1,8 @@
 //! All tags that a field takes, by the rows of the specification.
 
+use crate::tests::offers::ALL;
 use front_core::words::filter_answer;
-use front_core::{Answer, Field, FrontFault, Outcome, filter_tags};
+use front_core::{Answer, Field, FrontFault, Offering, Outcome, filter_tags};
 use nego_core::{Malformed, Scheme, Widening};
 use std::process::Abort;
 
@@ -37,30 +38,38 @@ fn of_lines_as_they_are_written(rt: HostRuntime) {
     let ranges = field(Scheme::Basic, "da, en-gb;q=0.8, en;q=0.7");
     let tags = b"en\nda-DK\nen-GB-oed\n@none\nen".as_slice();
     let lines = "filter 4\nda-DK 1000\nen-GB-oed 800\nen 700\nen 700\n";
-    let answer = filter_tags(rt.alloc(), ranges, tags);
+    let answer = filter_tags(rt.alloc(), ALL, ranges, tags);
     assert_lines(&rt, answer, lines, Outcome::Found);
 }
 
 #[test]
 fn nothing(rt: HostRuntime) {
     let ranges = field(Scheme::Basic, "ja");
-    let answer = filter_tags(rt.alloc(), ranges, b"en\n");
+    let answer = filter_tags(rt.alloc(), ALL, ranges, b"en\n");
     assert_lines(&rt, answer, "filter 0\n", Outcome::Nothing);
-    let answer = filter_tags(rt.alloc(), ranges, b"");
+    let answer = filter_tags(rt.alloc(), ALL, ranges, b"");
     assert_lines(&rt, answer, "filter 0\n", Outcome::Nothing);
 }
 
 #[test]
 fn extended(rt: HostRuntime) {
     let ranges = field(Scheme::Extended, "de-*-DE");
-    let answer = filter_tags(rt.alloc(), ranges, b"de-Latn-DE\nde");
+    let answer = filter_tags(rt.alloc(), ALL, ranges, b"de-Latn-DE\nde");
     assert_lines(&rt, answer, "filter 1\nde-Latn-DE 1000\n", Outcome::Found);
 }
 
 #[test]
 fn equal_weights_by_tag_and_then_by_place(rt: HostRuntime) {
     let ranges = field(Scheme::Basic, "en");
-    let answer = filter_tags(rt.alloc(), ranges, b"EN-us\nen-GB\nEN\nen-us");
+    let answer = filter_tags(rt.alloc(), ALL, ranges, b"EN-us\nen-GB\nEN\nen-us");
     let lines = "filter 4\nEN 1000\nen-GB 1000\nEN-us 1000\nen-us 1000\n";
     assert_lines(&rt, answer, lines, Outcome::Found);
+}
+
+#[test]
+fn of_tags_that_are_offered(rt: HostRuntime) {
+    let ranges = field(Scheme::Basic, "fr, en;q=0.5");
+    let offer = Offering::Field(b"en, de");
+    let answer = filter_tags(rt.alloc(), offer, ranges, b"en-GB\nfr\nEN\n");
+    assert_lines(&rt, answer, "filter 2\nEN 500\nen-GB 500\n", Outcome::Found);
 }

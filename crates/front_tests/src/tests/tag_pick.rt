@@ -1,6 +1,8 @@
 //! Tags that are picked for a field.
 
-use front_core::{Field, Picked, pick};
+use crate::tests::offers::ALL;
+use front_core::{Field, FrontFault, Offering, Picked, pick};
+use lang_core::LangFault;
 use nego_core::{Malformed, Scheme, Widening};
 use std::alloc::Global;
 use std::process::Abort;
@@ -40,7 +42,7 @@ fn assert_pick(
     tags: &[u8],
     wanted: Picked<'_>,
 ) {
-    assert_eq!(rt; pick(alloc, field, default, tags), Ok(wanted));
+    assert_eq!(rt; pick(alloc, ALL, field, default, tags), Ok(wanted));
 }
 
 #[test]
@@ -76,4 +78,18 @@ fn of_equal_tags_the_first_as_it_is_written(rt: HostRuntime) {
     assert_pick(&rt, alloc, accept("de-CH"), None, tags, first);
     let first = Picked::Default(b"DE-ch");
     assert_pick(&rt, alloc, accept("ja"), Some(b"de-ch"), tags, first);
+}
+
+#[test]
+fn of_tags_that_are_offered(rt: HostRuntime) {
+    let alloc = rt.alloc();
+    let offer = Offering::Field(b"*, fr;q=0");
+    let field = accept("fr, en;q=0.5");
+    let picked = pick(alloc, offer, field, Some(b"fr"), TAGS);
+    assert_eq!(rt; picked, Ok(Picked::Matched(b"en")));
+    let picked = pick(alloc, offer, accept("ja"), Some(b"fr"), TAGS);
+    assert_eq!(rt; picked, Ok(Picked::Nothing));
+    let picked = pick(alloc, offer, field, None, b"en\nfr-ab_c\n");
+    let fault = FrontFault::Language(LangFault::TagSubtag { offset: 3 });
+    assert_eq!(rt; picked, Err(fault));
 }

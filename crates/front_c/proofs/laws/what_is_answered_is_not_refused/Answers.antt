@@ -1,6 +1,15 @@
-use Rattle.front_core.proofs.AskStages.{filter_stage, language_stage, lookup_stage}
-use Rattle.front_core.proofs.AskStages.{outdated_stage, pick_stage, reader_stage, seen_as}
-use Rattle.front_core.proofs.AskStages.{tag_filter_stage}
+use Rattle.std.proofs.Common.{◌⊎◌, List, Option, inl, inr}
+use Rattle.front_core.proofs.AskStages.{filter_stage, in_turn, language_stage, lookup_stage}
+use Rattle.front_core.proofs.AskStages.{offer_stage, outdated_stage, pick_stage, reader_stage}
+use Rattle.front_core.proofs.AskStages.{seen_as, tag_filter_stage, tags_stage}
+use Rattle.front_core.specs.Fault.{IsOf, language_fault}
+use Rattle.front_core.specs.Offering.{HasOffer}
+use Rattle.front_core.specs.Preferences.{FieldText, HasDefault, HasList, Text}
+use Rattle.front_core.specs.Reader.{RefusesReader}
+use Rattle.front_core.specs.TagPick.{IsPickedTag}
+use Rattle.front_core.specs.Tags.{RefusesTags, offered_tags}
+use Rattle.front_core.specs.declared.tag_pick.Picked.{Picked}
+use Rattle.front_core.specs.declared.tag_pick.Picked.TheVariants as picked
 use Rattle.front_core.proofs.OpenSiteStages.{delete_apart, delete_one, import_apart, import_one}
 use Rattle.front_core.proofs.OpenSiteStages.{merge_apart, merge_one, put_apart, put_one}
 use Rattle.front_core.proofs.OpenSiteStages.{take_apart, take_one, update_apart, update_one}
@@ -95,3 +104,35 @@ returns-clause-tags c = λ field tags.
     (λ q. let is = q.1 in let taken = is.2 in
     ((taken.list, taken.list_ok), (is.0, taken.langs_ok)))
     (λ fault why. why) (tag_filter_stage field tags)
+
+-- what is picked has a default and a list
+read_for : (field : FieldText) (word : Option Text) (tags : List Text) (tag : Picked)
+    → IsPickedTag field word tags tag → HasDefault word × HasList field
+read_for field word tags (picked.Matched tag) h =
+    ((h.1.default, h.1.default_ok), (h.1.list, h.1.list_ok))
+read_for field word tags (picked.Default tag) h =
+    ((h.1.default, h.1.default_ok), (h.1.list, h.1.list_ok))
+read_for field word tags picked.Nothing h =
+    ((h.default, h.default_ok), (h.list, h.list_ok))
+
+pub returns-clause-offered_pick : goal.returns-clause-offered_pick
+returns-clause-offered_pick c = λ offers field default tags.
+    seen_as
+    (λ made.
+    let is = made.1 in
+    let read = read_for field default (offered_tags is.1.0 tags) made.0 is.1.2 in
+    ((read.0, ((is.1.0, is.1.1), read.1)), is.0))
+    (λ fault why. elim why as (λ _. RefusesReader offers field default fault
+    ⊎ ((HasDefault default × (HasOffer offers × HasList field))
+    × IsOf language_fault (RefusesTags tags) fault)) [
+      | inl r ↦ inl r
+      | inr r ↦ inr ((r.0.1.0, (r.0.0, r.0.1.1)), r.1)
+    ])
+    (in_turn (reader_stage offers field default) (tags_stage tags))
+
+pub returns-clause-offered_tags : goal.returns-clause-offered_tags
+returns-clause-offered_tags c = λ offers field tags.
+    seen_as
+    (λ q. let is = q.1 in let taken = is.1.2.2 in
+    ((is.1.0, is.1.1), ((taken.list, taken.list_ok), is.0)))
+    (λ fault why. why) (in_turn (offer_stage offers) (tag_filter_stage field tags))
