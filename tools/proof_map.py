@@ -8,6 +8,8 @@ import rattle_sources as rattle
 
 # Members of an `impl` that only prove what the trait asks, and say nothing of their own.
 PROOFS_ALONE = {"laws", "total", "matches_partial_cmp", "matches_eq"}
+# Those that say something of the trait or the type, but where they are given are proofs too.
+PROOFS = PROOFS_ALONE | {"exact", "respects_eq", "inverse_ok"}
 
 
 @functools.lru_cache(maxsize=None)
@@ -16,11 +18,11 @@ class Source:
 
     def __init__(self, path):
         self.path, self.text = path, rattle.read(path)
-        self.functions, blocks = rattle.items_of(self.text)
+        self.functions, self.all_blocks = rattle.items_of(self.text)
         self.blocks = collections.defaultdict(list)
-        for it in blocks:
+        for it in self.all_blocks:
             self.blocks[it.name].append(it)
-        self.traits = {it.name for it in blocks if it.is_trait}
+        self.traits = {it.name for it in self.all_blocks if it.is_trait}
         self.types = {*rattle.types_of(self.text), *self.traits}
 
     def functions_named(self, name):
@@ -59,20 +61,22 @@ class Source:
 
     def cited_by(self, name):
         """The definitions of specs/ that such a text cites, in its order, as (their file, name)."""
-        known, modules, cited = {}, {}, []
+        return self.cited_in(self.contract_of(name))
+
+    def cited_in(self, text):
+        """The definitions of specs/ that a text of this source cites, in its order."""
+        known, modules = collections.defaultdict(list), collections.defaultdict(list)
         for module, names, alias in rattle.uses_of(self.text):
-            crate, _, file = module.partition(".specs.")
-            file = file.split(".")[0] if crate in rattle.crates() else ""
-            if file not in ("", "declared", "contracts"):
-                path = f"crates/{crate}/specs/{file}.antt"
-                modules.update({alias: path} if alias else {})
-                known.update({here: (path, name) for here, name in names.items()})
-        for word in re.findall(r"[^\s(){}\[\],;:]+", self.contract_of(name)):
+            path = rattle.specs_file(module)
+            if path and alias:
+                modules[alias].append(path)
+            for here, name in names.items() if path else ():
+                known[here].append((path, name))
+        cited = []
+        for word in re.findall(r"[^\s(){}\[\],;:]+", text):
             first, _, rest = word.partition(".")
-            if first in modules and rest:
-                cited.append((modules[first], rest.split(".")[0]))
-            elif first in known:
-                cited.append(known[first])
+            cited += [(path, rest.split(".")[0]) for path in modules.get(first, ()) if rest]
+            cited += known.get(first, ())
         return list(dict.fromkeys(cited))
 
 
@@ -129,3 +133,49 @@ def stated(crate):
         return public_names(crate)
     source = Source(path)
     return [(f"laws::{it.name}", source) for it in source.functions if it.is_public]
+
+
+def seen(crate):
+    """What is seen from outside a crate, as the source and the text of what it states: public
+    functions and methods, public traits, each `impl` of a trait in whose head is no private name,
+    public types, and what the types are seen as that these are made of. Of a program it is its
+    laws."""
+    if not rattle.module_file(crate, "lib"):
+        return [(source, source.contract_of(name)) for name, source in stated(crate)]
+    sources = [Source(path) for path in rattle.source_files(crate)]
+    types = {name: (source, *it) for source in sources
+             for name, it in rattle.bodies_of_types(source.text).items()}
+    public = {name for name, (_, is_public, _) in types.items() if is_public}
+    traits = {it.name: it.head.startswith("pub trait ")
+              for source in sources for it in source.all_blocks if it.is_trait}
+    private = {*types, *traits} - public - {name for name, is_public in traits.items() if is_public}
+    exported = {id(it) for name, source in exports(crate) for it in source.functions_named(name)}
+    made_of = parts_of(public, {name: body for name, (_, _, body) in types.items()})
+    found = [(source, "".join(rattle.ghosts_of(body).values()))
+             for name, (source, _, body) in types.items() if name in public]
+    for source in sources:
+        is_hidden = {id(it): bool(private & set(re.findall(r"\w+", f"{it.trait} {it.kind}")))
+                     for it in source.all_blocks}
+        for it in source.functions:
+            is_own = it.block is None or not it.block.is_trait and not it.block.trait
+            is_open = it.is_public and it.block or id(it) in exported
+            if (is_open if is_own else True) and not (it.block and is_hidden[id(it.block)]):
+                found.append((source, it.contract))
+        for it in source.all_blocks:
+            if not is_hidden[id(it)]:
+                left_out = set() if it.is_trait else PROOFS
+                said = (it.ghosts[name] for name in it.ghosts if name not in left_out)
+                found.append((source, "".join(said)))
+            elif it.trait.split("::")[-1] == "Model" and rattle.bare(it.kind) in made_of:
+                found.append((source, it.ghosts.get("Value", "") + it.ghosts.get("view", "")))
+    return found
+
+
+def parts_of(names, bodies):
+    """The types that some are made of, these among them, by the text of each type."""
+    found, left = set(names), [*names]
+    while left:
+        inside = set(re.findall(r"\w+", bodies[left.pop()])) & set(bodies) - found
+        found |= inside
+        left += inside
+    return found

@@ -24,7 +24,7 @@ CYCLE = re.compile(r"^#\[cycle\((\w+)\)\]", re.M)
 TYPE = re.compile(rf"^{VISIBLE}(struct|enum|type|const) (\w+)", re.M)
 VARIANT = re.compile(r"^    (#\[.*\])\n(?:    (?:///|#\[).*\n)*    (\w+)(?: \{|\(|,)", re.M)
 FIELD = re.compile(r" +pub (?:ghost )?(\w+): ")
-GHOST = re.compile(r"^    (?:pub )?ghost\*? (\w+)(\s*[:=][^;]*);", re.M)
+GHOST = re.compile(rf"^    {VISIBLE}ghost\*? (\w+)(?=\s*[:=])", re.M)
 CLAUSE = re.compile(r"\bensures\*?(?: (\w+))? ?\{")
 USE = re.compile(r"\b(?:ghost )?use Rattle\.([\w.]+?)(?:\.\{([^}]*)\}| as ([^\s;]+))?;?\s*$", re.M)
 PATH = re.compile(r"\bcrate::(specs|proofs)::([\w:]+)::([^\s:(){},;]+)")
@@ -160,17 +160,29 @@ def doc_at_head(text):
     return "\n".join(re.findall(r"^//! ?(.*)$", text, re.M))
 
 
+def ghosts_of(text):
+    """The ghost members of a block or fields of a type: what follows each name, up to its end."""
+    found = {}
+    for it in GHOST.finditer(text):
+        depth, end = 0, it.end()
+        while end < len(text) and (depth or text[end] not in ";,"):
+            depth += (text[end] in "{(") - (text[end] in "})")
+            end += 1
+        found[it[1]] = text[it.end():end]
+    return found
+
+
 class Block:
-    """An `impl` or a `trait`: its head, the path of the trait, if it is the impl of one, its ghost
-    members by their names, and its name, as pages have it (`Tag`, `From<AllocError> for Fault`),
-    and as a pattern of the prover's (None for a trait)."""
+    """An `impl` or a `trait`: its head, the path of the trait, if it is the impl of one, that of
+    the type, its ghost members by their names, and its name, as pages have it (`Tag`,
+    `From<AllocError> for Fault`), and as a pattern of the prover's (None for a trait)."""
 
     def __init__(self, lines, place):
         ends = (end for end in range(place, len(lines)) if "{" in lines[end])
         self.line, end = place + 1, next(ends, place)
         self.head = " ".join(lines[place:end + 1]).split("{")[0]
-        is_impl, self.trait, kind = HEAD.match(self.head).groups(default="")
-        self.is_trait = not is_impl
+        is_impl, self.trait, self.kind = HEAD.match(self.head).groups(default="")
+        self.is_trait, kind = not is_impl, self.kind
         trait, _, of = self.trait.partition("<")
         short = self.trait if of else trait.split("::")[-1]
         self.name = f"{short} for {bare(kind)}" if trait else bare(kind)
@@ -179,7 +191,7 @@ class Block:
         self.proved_name = prover_name_of(kind) + bare(trait) + of if is_impl else None
         closed = (last for last in range(end, len(lines)) if lines[last].startswith("}"))
         last = end if lines[end].endswith("}") else next(closed, end)
-        self.ghosts = dict(GHOST.findall("\n".join(lines[end + 1:last])))
+        self.ghosts = ghosts_of("\n".join(lines[end + 1:last]))
 
 
 class Function:
@@ -248,6 +260,19 @@ def types_of(text, kinds=("struct", "enum", "type", "const")):
     return [name for kind, name in TYPE.findall(text) if kind in kinds]
 
 
+def bodies_of_types(text):
+    """The types of a source by their names: whether each is public, and its text."""
+    lines, found = text.split("\n"), {}
+    for at, line in enumerate(lines):
+        it = TYPE.match(line)
+        if it and it[1] != "const":
+            is_end = lambda end: lines[end].startswith(("}", ")")) or lines[end].endswith(";")
+            last = at if line.endswith("}") else next(filter(is_end, range(at, len(lines))))
+            body = "\n".join(re.sub(r" *//.*", "", it) for it in lines[at:last + 1])
+            found[it[2]] = line.startswith("pub "), body
+    return found
+
+
 def constants_of(text):
     """The constants of a source that are numbers: these as written, by their names."""
     return dict(re.findall(r"\bconst (\w+): \w+ = ([\d_]+);", text))
@@ -292,6 +317,16 @@ def uses_of(text):
     for module, items, alias in USE.findall(text):
         pairs = [item.strip().partition(" as ") for item in items.split(",") if item.strip()]
         yield Use(module, {other or name: name for name, _, other in pairs}, alias)
+
+
+def specs_file(module):
+    """The file of definitions that is a module of this path, as `lang_core.specs.inner.Stage`, or
+    None where that is none of the repository's, or the prover's."""
+    crate, _, place = module.partition(".specs.")
+    folder = "inner/" if place.startswith("inner.") else ""
+    file = place.removeprefix("inner.").split(".")[0]
+    is_own = crate in crates() and file not in ("", "declared", "contracts")
+    return f"crates/{crate}/specs/{folder}{file}.antt" if is_own else None
 
 
 def without_uses(text):

@@ -35,7 +35,7 @@ def paths_of(*patterns):
 
 
 sources = {os.path.basename(path)
-           for path in paths_of("crates/*/src/**/*.rt", "crates/*/specs/*.antt")}
+           for path in paths_of("crates/*/src/**/*.rt", "crates/*/specs/**/*.antt")}
 
 
 def names_a_file(name):

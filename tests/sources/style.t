@@ -12,7 +12,7 @@ Never allowed:
 Counted, and each count may only fall, from the number in tests/sources/style-counts:
 - functions and public fields of sources without a doc comment; members of an `impl` of a trait have
   that of the trait,
-- definitions (specs/*.antt), in a `module` too, without a sentence above them: a reader has to
+- definitions (specs/**/*.antt), in a `module` too, without a sentence above them: a reader has to
   trust them, and uncited.t sees that a contract or a proof cites each,
 - exported lemmas (proofs/*.antt), in a `module` too, without a sentence above them,
 - answers and invariants (proofs/FILE/FUNCTION/) of more than 15 lines without a sentence above,
@@ -21,7 +21,7 @@ Counted, and each count may only fall, from the number in tests/sources/style-co
   which `rt fmt` keeps on one line,
 - crates of more than 3,000 lines or 160 functions, so that one can be held in the head,
 - files of definitions and of lemmas whose name does not begin with that of a source of the crate,
-  in the singular or the plural.
+  in the singular or the plural; two of one name in specs/ and specs/inner/ count once.
 
 A count above its number fails, and so does one below it, with the number to write: so what was won
 is kept. Tests (src/tests, src/tests.rt and the crates of tests) are counted for their lines alone.
@@ -107,6 +107,9 @@ def too_large(crate):
 def no_source(path):
     """The file of definitions or lemmas, where no source of its crate has the name it begins with.
     """
+    outer = path.replace("/specs/inner/", "/specs/")
+    if path.endswith("/specs/inner.antt") or outer != path and rattle.is_there(outer):
+        return
     sources = rattle.files_of(path.split("/")[1], "src", ".rt")
     name = WORD_START.sub("_", os.path.basename(path)[:-len(".antt")]).lower() + "_"
     stems = {os.path.basename(it)[:-len(".rt")].removesuffix("s") for it in sources}

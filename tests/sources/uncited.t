@@ -27,7 +27,8 @@ WORD = re.compile(r"[^\s(){}\[\],;.:]+")
 
 def defines(path):
     """Whether a file's names are its author's. Those of a function's proof are the prover's."""
-    return path.count("/") == 3 and os.path.basename(path) != "Lib.antt"
+    is_of_crate = "/specs/" in path or path.count("/") == 3
+    return is_of_crate and not path.endswith(("/Lib.antt", "/specs/inner.antt"))
 
 
 def is_looked_at(definition):
