@@ -6,13 +6,15 @@ use Rattle.std.specs.Ordering.{is_lt}
 use Rattle.std.specs.FinMap.Entries.{find}
 use Rattle.cell_core.specs.declared.cell.Cell.{Cell}
 use Rattle.cell_core.specs.Stamp.{stamp_cmp}
-use Rattle.cell_core.specs.Cell.{joined_cells, cell_laws}
+use Rattle.cell_core.specs.Cell.{joined_cells}
+use Rattle.cell_core.specs.inner.Cell.{cell_laws}
 use Rattle.cell_core.specs.Keyed.{IsMap, joined_if_both}
-use Rattle.cell_core.specs.KeyedLaws.{joined_maps-IsMap, find-joined_maps}
-use Rattle.cell_core.specs.KeyedLaws.{same_maps, also_map}
-use Rattle.cell_core.specs.Entry.{EntryKey, key_cmp, key_cmp_total, key_cmp_exact}
-use Rattle.catalogue.specs.Entries.{Entry, Entries}
-use Rattle.catalogue.specs.Entries.{Agree, joined, IsBelowCells, catalogue_laws}
+use Rattle.cell_core.specs.inner.KeyedLaws.{joined_maps-IsMap, find-joined_maps, same_maps}
+use Rattle.cell_core.specs.inner.KeyedLaws.{also_map}
+use Rattle.cell_core.specs.Entry.{EntryKey, key_cmp}
+use Rattle.cell_core.specs.inner.Entry.{key_cmp_total, key_cmp_exact}
+use Rattle.catalogue.specs.Entries.{Entry, Entries, Agree, joined, IsBelowCells}
+use Rattle.catalogue.specs.inner.Entries.{catalogue_laws}
 use Rattle.cata_core.specs.Delta.{summary_of, is_missing, delta_of, IsPart}
 use Rattle.catalogue.proofs.CatalogueJoinedLatestLemmas.{first_alone}
 use Rattle.catalogue.proofs.EditStampOrderLemmas.{lt_self}

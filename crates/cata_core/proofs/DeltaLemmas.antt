@@ -6,12 +6,14 @@ use Rattle.std.specs.FinMap.Entries.{find, is_sorted}
 use Rattle.cell_core.specs.declared.cell.Cell.{Cell}
 use Rattle.cell_core.specs.declared.stamp.Stamp.{Stamp}
 use Rattle.cell_core.specs.Stamp.{stamp_cmp}
-use Rattle.cell_core.specs.Cell.{AgreeCells, joined_cells, cell_laws}
+use Rattle.cell_core.specs.Cell.{AgreeCells, joined_cells}
+use Rattle.cell_core.specs.inner.Cell.{cell_laws}
 use Rattle.cell_core.specs.Keyed.{IsMap, AgreeIfBoth, joined_if_both}
-use Rattle.cell_core.specs.KeyedLaws.{joined_maps-IsMap}
+use Rattle.cell_core.specs.inner.KeyedLaws.{joined_maps-IsMap}
 use Rattle.cell_core.specs.Keyed.{joined_entries}
-use Rattle.cell_core.specs.KeyedLaws.{find-joined_maps, same_maps, at_of}
-use Rattle.cell_core.specs.Entry.{key_cmp, key_cmp_total, key_cmp_exact}
+use Rattle.cell_core.specs.inner.KeyedLaws.{find-joined_maps, same_maps, at_of}
+use Rattle.cell_core.specs.Entry.{key_cmp}
+use Rattle.cell_core.specs.inner.Entry.{key_cmp_total, key_cmp_exact}
 use Rattle.catalogue.specs.Entries.{Entry, Entries, Agree}
 use Rattle.catalogue.specs.Entries.{joined}
 use Rattle.cata_core.specs.Delta.{Stamps, is_missing, delta_of, HasAtLeast, HasAll}

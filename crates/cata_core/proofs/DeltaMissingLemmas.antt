@@ -9,7 +9,7 @@ use Rattle.cell_core.specs.Keyed.{IsMap}
 use Rattle.cell_core.specs.Entry.{EntryKey, key_cmp}
 use Rattle.catalogue.specs.Entries.{Entries, IsAboveAll}
 use Rattle.cata_core.specs.Delta.{Stamps, is_missing, delta_of}
-use Rattle.cata_core.specs.DeltaSeeking.{IsRestAfter}
+use Rattle.cata_core.specs.inner.DeltaSeeking.{IsRestAfter}
 use Rattle.catalogue.proofs.EntriesFilteredLemmas.{filter-IsMap}
 use Rattle.catalogue.proofs.CatalogueAboveLemmas.{front_below}
 use Rattle.cell_core.proofs.Basics.{first_part, second_part, less_than}

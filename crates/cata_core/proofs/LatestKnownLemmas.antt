@@ -6,7 +6,8 @@ use Rattle.cell_core.specs.Keyed.{joined_if_both}
 use Rattle.cata_core.specs.declared.latest.Latest.{Latest}
 use Rattle.cata_core.specs.declared.latest.Latest.TheVariants.{Known, Unknown}
 use Rattle.catalogue.specs.Entries.{Entries, Agree, joined}
-use Rattle.cata_core.specs.LatestKnown.{IsKnownLatest, known_with}
+use Rattle.cata_core.specs.LatestKnown.{IsKnownLatest}
+use Rattle.cata_core.specs.inner.LatestKnown.{known_with}
 use Rattle.catalogue.specs.CatalogueLatest.{latest_of}
 use Rattle.catalogue.proofs.CatalogueJoinedLatestLemmas.{latest_joined}
 

@@ -8,7 +8,8 @@ use Rattle.std.specs.FinMap.Entries.{find, put, by_order}
 use Rattle.cell_core.specs.declared.cell.Cell.{Cell}
 use Rattle.cell_core.specs.declared.stamp.Stamp.{Stamp}
 use Rattle.cell_core.specs.Stamp.{stamp_cmp}
-use Rattle.cell_core.specs.Entry.{EntryKey, key_cmp, key_cmp_exact}
+use Rattle.cell_core.specs.Entry.{EntryKey, key_cmp}
+use Rattle.cell_core.specs.inner.Entry.{key_cmp_exact}
 use Rattle.catalogue.specs.Entries.{Entry, Entries}
 use Rattle.catalogue.specs.Edits.{is_best, entries_of, catalogue_of}
 use Rattle.catalogue.specs.CatalogueLatest.{latest_of, IsLatest}

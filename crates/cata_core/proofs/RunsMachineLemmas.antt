@@ -11,7 +11,8 @@ use Rattle.catalogue.specs.Edits.{catalogue_of}
 use Rattle.cata_core.specs.RunsTaken.{Taken, taken_step, taken_after, nothing_taken, taken}
 use Rattle.cata_core.specs.WorldHeld.{Held, held_step, held_after, nothing_held, held}
 use Rattle.cata_core.specs.Answer.{IsAnswered, AreAnswersBy, AreHeldAnswers, AreAnswers}
-use Rattle.cata_core.specs.PlayFault.{IsSound, IsFaultOf, NoneFaulty, IsFirstFault, RefusesStep}
+use Rattle.cata_core.specs.PlayFault.{IsSound, IsFaultOf, NoneFaulty, IsFirstFault}
+use Rattle.cata_core.specs.inner.PlayFault.{RefusesStep}
 
 -- no step is faulty, from a state on
 abbrev pub AllSound : ℕ → Held → List Step → Type 0

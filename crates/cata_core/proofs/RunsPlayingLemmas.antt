@@ -10,8 +10,9 @@ use Rattle.catalogue.specs.Edits.{IsConsistent}
 use Rattle.cata_core.specs.RunsTaken.{edits_of}
 use Rattle.cata_core.specs.WorldHeld.{nothing_held}
 use Rattle.cata_core.specs.Answer.{AreHeldAnswers, AreAnswers}
-use Rattle.cata_core.specs.PlayFault.{IsSound, RefusesStep, NoneFaulty, NoDelivers}
-use Rattle.cata_core.specs.World.{held_in, IsRunning, IsStepped}
+use Rattle.cata_core.specs.PlayFault.{IsSound, NoneFaulty, NoDelivers}
+use Rattle.cata_core.specs.inner.PlayFault.{RefusesStep}
+use Rattle.cata_core.specs.inner.World.{held_in, IsRunning, IsStepped}
 use Rattle.catalogue.proofs.Basics.{append_nil}
 use Rattle.cata_core.proofs.RunsMachineLemmas.{AllSound, FaultFrom, HeldAnswersFrom, held_answers}
 use Rattle.cata_core.proofs.RunsMachineLemmas.{none_faulty}

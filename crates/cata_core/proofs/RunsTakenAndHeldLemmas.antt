@@ -35,7 +35,8 @@ use Rattle.cata_core.specs.WorldHeld.{told_by, delta_to, cells_posted, held_step
 use Rattle.cata_core.specs.WorldHeld.{held_after, held}
 use Rattle.cata_core.specs.Answer.{IsAnswered, AreAnswers}
 use Rattle.catalogue.specs.Clash.{IsFirstClash}
-use Rattle.cata_core.specs.PlayFault.{RefusesStep, IsNoClash}
+use Rattle.cata_core.specs.PlayFault.{IsNoClash}
+use Rattle.cata_core.specs.inner.PlayFault.{RefusesStep}
 use Rattle.catalogue.proofs.CatalogueMembersLemmas.{In, in_append_left, in_append_right}
 use Rattle.catalogue.proofs.CatalogueMembersLemmas.{in_append_cases}
 use Rattle.catalogue.proofs.CatalogueMembersLemmas.{Contains-from_in, in_filter}

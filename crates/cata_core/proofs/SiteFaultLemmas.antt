@@ -4,7 +4,8 @@ use Rattle.cell_core.specs.Keyed.{IsMap}
 use Rattle.catalogue.specs.declared.cata_fault.CataFault.{CataFault}
 use Rattle.catalogue.specs.declared.cata_fault.CataFault.TheVariants.{StampReused, ClockSpent}
 use Rattle.catalogue.specs.declared.cata_fault.CataFault.TheVariants.{NotForMe, NoMemory}
-use Rattle.catalogue.specs.CataFault.{IsRefusal, IsOfCells}
+use Rattle.catalogue.specs.CataFault.{IsRefusal}
+use Rattle.catalogue.specs.inner.CataFault.{IsOfCells}
 use Rattle.cell_core.specs.Entry.{key_cmp}
 use Rattle.catalogue.specs.Entries.{Entries, Agree}
 use Rattle.catalogue.proofs.ClashLemmas.{clash_not_agree}

@@ -2,13 +2,15 @@
 use Rattle.std.proofs.Common.{◌≡◌, Option, Some, None, inl, inr, subst}
 use Rattle.std.specs.Prelude.{◌↔◌}
 use Rattle.std.specs.FinMap.Entries.{find}
-use Rattle.cell_core.specs.Cell.{AgreeCells, joined_cells, cell_laws}
+use Rattle.cell_core.specs.Cell.{AgreeCells, joined_cells}
+use Rattle.cell_core.specs.inner.Cell.{cell_laws}
 use Rattle.cell_core.specs.Keyed.{AgreeIfBoth}
-use Rattle.cell_core.specs.KeyedLaws.{at_of}
+use Rattle.cell_core.specs.inner.KeyedLaws.{at_of}
 use Rattle.cell_core.specs.CellMigration.{IsOldStamp, OldCell, AgreeOldCells, joined_old_cells}
 use Rattle.cell_core.specs.CellMigration.{migrated_cell}
 use Rattle.cell_core.proofs.CellMigrationLemmas.{keeps_cell_joins}
-use Rattle.cell_core.specs.Entry.{EntryKey, key_cmp, key_cmp_total, key_cmp_exact}
+use Rattle.cell_core.specs.Entry.{EntryKey, key_cmp}
+use Rattle.cell_core.specs.inner.Entry.{key_cmp_total, key_cmp_exact}
 use Rattle.cata_core.specs.SiteMigration.{OldEntries, IsOldMap, AgreeOld, KeepsCatalogueJoins}
 use Rattle.cata_core.specs.SiteMigration.{migrated_entries}
 use Rattle.catalogue.proofs.ChangesMappedLemmas.{mapped-IsMap, mapped_joined, mapped_agree}

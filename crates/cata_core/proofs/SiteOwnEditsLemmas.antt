@@ -10,7 +10,7 @@ use Rattle.cell_core.specs.Join.{IsBelow}
 use Rattle.cell_core.specs.Keyed.{IsMap}
 use Rattle.cell_core.specs.Entry.{EntryKey, key_cmp}
 use Rattle.catalogue.specs.Entries.{Entry, Entries, Agree, joined, IsBelowCells}
-use Rattle.catalogue.specs.Entries.{catalogue_laws}
+use Rattle.catalogue.specs.inner.Entries.{catalogue_laws}
 use Rattle.catalogue.specs.Edits.{catalogue_of, IsSettled}
 use Rattle.catalogue.specs.CatalogueLatest.{latest_of}
 use Rattle.catalogue.proofs.CatalogueApplyLemmas.{agree_some, agree_none, joined_new, joined_later}

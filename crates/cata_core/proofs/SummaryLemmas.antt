@@ -10,9 +10,9 @@ use Rattle.cell_core.specs.declared.stamp.Stamp.{Stamp}
 use Rattle.cell_core.specs.Stamp.{stamp_cmp}
 use Rattle.cell_core.specs.Cell.{joined_stamps, joined_cells}
 use Rattle.cell_core.specs.Keyed.{IsMap, joined_maps, joined_if_both}
-use Rattle.cell_core.specs.KeyedLaws.{joined_maps-IsMap}
-use Rattle.cell_core.specs.KeyedLaws.{find-joined_maps, same_maps}
-use Rattle.cell_core.specs.Entry.{EntryKey, key_cmp, key_cmp_total, key_cmp_exact}
+use Rattle.cell_core.specs.inner.KeyedLaws.{joined_maps-IsMap, find-joined_maps, same_maps}
+use Rattle.cell_core.specs.Entry.{EntryKey, key_cmp}
+use Rattle.cell_core.specs.inner.Entry.{key_cmp_total, key_cmp_exact}
 use Rattle.catalogue.specs.Entries.{Entry, Entries}
 use Rattle.catalogue.specs.Entries.{joined, IsBelowCells}
 use Rattle.catalogue.specs.Edits.{catalogue_of}

@@ -1,7 +1,8 @@
 -- A sync that ended for lack of memory can be repeated.
 use Rattle.std.proofs.Common.{◌≡◌, ◌⊎◌, inl, inr, sym, ◌∙◌, subst}
 use Rattle.cell_core.specs.Join.{IsBelow}
-use Rattle.catalogue.specs.Entries.{Entries, Agree, joined, Between, catalogue_laws}
+use Rattle.catalogue.specs.Entries.{Entries, Agree, joined, Between}
+use Rattle.catalogue.specs.inner.Entries.{catalogue_laws}
 use Rattle.cata_core.proofs.SyncingTurnsLemmas.{agrees_back, joined_back}
 
 -- what is on the way to the join is below it

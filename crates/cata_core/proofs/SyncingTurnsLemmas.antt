@@ -2,14 +2,16 @@
 use Rattle.std.proofs.Common.{◌≡◌, Option, Some, None, inl, inr, sym, ap, ◌∙◌, subst}
 use Rattle.std.specs.FinMap.Entries.{find}
 use Rattle.cell_core.specs.declared.cell.Cell.{Cell}
-use Rattle.cell_core.specs.Cell.{AgreeCells, joined_cells, cell_laws}
+use Rattle.cell_core.specs.Cell.{AgreeCells, joined_cells}
+use Rattle.cell_core.specs.inner.Cell.{cell_laws}
 use Rattle.cell_core.specs.Join.{IsBelow}
 use Rattle.cell_core.specs.StampLater.{IsEitherOf}
 use Rattle.cell_core.specs.Keyed.{IsMap, AgreeIfBoth, joined_if_both, BetweenIfBoth}
-use Rattle.cell_core.specs.KeyedLaws.{find-joined_maps}
-use Rattle.cell_core.specs.Entry.{key_cmp, key_cmp_total}
+use Rattle.cell_core.specs.inner.KeyedLaws.{find-joined_maps}
+use Rattle.cell_core.specs.Entry.{key_cmp}
+use Rattle.cell_core.specs.inner.Entry.{key_cmp_total}
 use Rattle.catalogue.specs.Entries.{Entries, Agree, joined, Between}
-use Rattle.catalogue.specs.Entries.{catalogue_laws}
+use Rattle.catalogue.specs.inner.Entries.{catalogue_laws}
 
 -- The second of two catalogues that agree agrees with their join.
 pub agrees_with_join : (a b : Entries) → Agree a b → Agree b (joined a b)

@@ -5,10 +5,11 @@ use Rattle.std.specs.Prelude.{◌==◌, if◌then◌else◌, slice_get}
 use Rattle.std.specs.FinMap.Entries.{find}
 use Rattle.cell_core.specs.Cell.{joined_cells}
 use Rattle.cell_core.specs.Keyed.{IsMap}
-use Rattle.cell_core.specs.KeyedLaws.{joined_maps-IsMap}
+use Rattle.cell_core.specs.inner.KeyedLaws.{joined_maps-IsMap}
 use Rattle.cata_core.specs.declared.step.Step.{Step}
 use Rattle.cata_core.specs.declared.step.Step.TheVariants.{Edit, Merge, Post, Deliver}
-use Rattle.cell_core.specs.Entry.{key_cmp, key_cmp_total}
+use Rattle.cell_core.specs.Entry.{key_cmp}
+use Rattle.cell_core.specs.inner.Entry.{key_cmp_total}
 use Rattle.catalogue.specs.Entries.{Entry, Entries, joined}
 use Rattle.cata_core.specs.Delta.{Stamps, is_missing, summary_of, HasAll}
 use Rattle.cata_core.specs.WorldHeld.{ToldStamps, PostedCells, Held, cells_delivered, cells_in}

@@ -19,13 +19,15 @@ use Rattle.cata_core.specs.declared.play_fault.PlayFault.{PlayFault}
 use Rattle.cata_core.specs.declared.play_fault.PlayFault.TheVariants.{NoSuchSite, NoSuchPost}
 use Rattle.cata_core.specs.declared.play_fault.PlayFault.TheVariants.{StampReused, NoMemory}
 use Rattle.cell_core.specs.Entry.{key_cmp}
-use Rattle.catalogue.specs.Entries.{Entries, Agree, joined, catalogue_laws}
+use Rattle.catalogue.specs.Entries.{Entries, Agree, joined}
+use Rattle.catalogue.specs.inner.Entries.{catalogue_laws}
 use Rattle.catalogue.specs.Clash.{IsFirstClash}
 use Rattle.cata_core.specs.Delta.{summary_of, delta_of}
 use Rattle.cata_core.specs.WorldHeld.{ToldStamps, PostedCells, Held, joins, held_step, cells_in}
 use Rattle.cata_core.specs.WorldHeld.{cells_delivered, delta_to}
-use Rattle.cata_core.specs.PlayFault.{IsSound, AgreesWith, RefusesStep}
-use Rattle.cata_core.specs.World.{at_sites, IsClashAt}
+use Rattle.cata_core.specs.PlayFault.{IsSound, AgreesWith}
+use Rattle.cata_core.specs.inner.PlayFault.{RefusesStep}
+use Rattle.cata_core.specs.inner.World.{at_sites, IsClashAt}
 use Rattle.catalogue.proofs.Basics.{append_nil}
 use Rattle.list_core.proofs.Basics.{stands_at as got}
 

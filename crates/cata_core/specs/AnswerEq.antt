@@ -1,10 +1,8 @@
 -- When the answers of runs are equal.
 use Rattle.std.specs.Prelude.{Bool, List}
-use Rattle.std.specs.Cmp.{IsEquivalence}
-use Rattle.std.specs.Cmp.Lexicographic.{pointwise, lists_equiv}
+use Rattle.std.specs.Cmp.Lexicographic.{pointwise}
 use Rattle.cata_core.specs.declared.answer.Answer.{Answer}
 use Rattle.cata_core.specs.contracts.answer.AnswerPartialEq.TheImpl as answer_impl
-use Rattle.cata_core.specs.contracts.answer.AnswerEq.TheImpl.Laws as answer_laws
 
 -- what `==` says of two answers, by what its derive states
 abbrev pub answer_eq : Answer → Answer → Bool
@@ -13,7 +11,3 @@ answer_eq = (answer_impl.ghosts).eq
 -- the same answers in the same order
 abbrev pub answers_eq : List Answer → List Answer → Bool
 answers_eq = pointwise answer_eq
-
--- that equality is an equivalence
-pub answers_equiv : IsEquivalence answers_eq
-answers_equiv = lists_equiv answer_laws.laws-law

@@ -2,7 +2,6 @@ pub mod Answer
 pub mod AnswerAlike
 pub mod AnswerEq
 pub mod Delta
-pub mod DeltaSeeking
 pub mod LatestKnown
 pub mod OwnEdits
 pub mod PlayFault
@@ -14,5 +13,5 @@ pub mod StepMigration
 pub mod Summary
 pub mod SummaryEntries
 pub mod SummaryEq
-pub mod World
 pub mod WorldHeld
+pub mod inner

@@ -65,11 +65,6 @@ IsFaultOf sites w n step (StampReused at place stamp) =
     × IsSomeAnd (cells_in w step) (λ c. IsFirstClash key_cmp (w.of_site c.0) c.1 place stamp)))
 IsFaultOf sites w n step NoMemory = ⊥
 
--- a step is refused by why it is faulty; out of memory may always be
-abbrev pub RefusesStep : ℕ → Held → ℕ → Step → PlayFault → Type 0
-RefusesStep sites w n step NoMemory = ⊤
-RefusesStep sites w n step fault = IsFaultOf sites w n step fault
-
 -- no step is faulty
 abbrev pub NoneFaulty : ℕ → List Step → Type 0
 NoneFaulty sites steps =

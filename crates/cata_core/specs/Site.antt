@@ -1,8 +1,7 @@
 -- Sites, and what each refusal of a site means (project rules).
 use Rattle.std.specs.Prelude.{◌≡◌, ◌≢◌, ℕ, Bool, List, nat_eq}
 use Rattle.std.specs.Ordering.{on, eq_of_both}
-use Rattle.std.specs.Cmp.{IsEquivalence, and_equiv, on_equiv}
-use Rattle.std.specs.Cmp.Lexicographic.{pointwise, on_texts_equal}
+use Rattle.std.specs.Cmp.Lexicographic.{pointwise}
 use Rattle.cell_core.specs.Stamp.{NoNext}
 use Rattle.catalogue.specs.declared.cata_fault.CataFault.{CataFault}
 use Rattle.catalogue.specs.declared.cata_fault.CataFault.TheVariants.{ClockSpent, NotForMe}
@@ -10,7 +9,7 @@ use Rattle.catalogue.specs.declared.cata_fault.CataFault.TheVariants.{NoMemory}
 use Rattle.cata_core.specs.declared.delta.Delta.{Delta}
 use Rattle.catalogue.specs.CataFault.{IsRefusal, IsLeft}
 use Rattle.catalogue.specs.Entries.{Entries}
-use Rattle.catalogue.specs.Equality.{entries_eq, entries_equiv}
+use Rattle.catalogue.specs.Equality.{entries_eq}
 use Rattle.catalogue.specs.CatalogueLatest.{latest_of}
 
 -- a site, by its name and its catalogue
@@ -39,9 +38,3 @@ pub record IsLeftSite (old new : SiteState) (other : Entries) (fault : CataFault
 -- the same name and the same catalogue
 abbrev pub site_eq : SiteState → SiteState → Bool
 site_eq = eq_of_both (on (λ s. s.name) (pointwise nat_eq)) (on (λ s. s.cells) entries_eq)
-
--- equality of sites is an equivalence
-pub site_equiv : IsEquivalence site_eq
-site_equiv =
-    and_equiv (on_texts_equal (λ (s : SiteState). s.name))
-    (on_equiv (λ (s : SiteState). s.cells) entries_equiv)

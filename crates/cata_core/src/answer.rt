@@ -80,7 +80,8 @@ impl Edits {
 /// Lists of edits are equal where their edits are.
 impl PartialEq for Edits {
     ghost use Rattle.std.specs.Cmp as laws_of;
-    ghost use Rattle.catalogue.specs.Equality.{entries_eq, entries_equiv};
+    ghost use Rattle.catalogue.specs.Equality.{entries_eq};
+    ghost use Rattle.catalogue.specs.inner.Equality.{entries_equiv};
 
     ghost eq = { entries_eq };
 
@@ -92,7 +93,7 @@ impl PartialEq for Edits {
 }
 
 impl Eq for Edits {
-    ghost use Rattle.catalogue.specs.Equality.{entries_equiv};
+    ghost use Rattle.catalogue.specs.inner.Equality.{entries_equiv};
 
     ghost laws = { entries_equiv };
 }
@@ -187,7 +188,8 @@ impl Answers {
 /// Lists of answers are equal where their answers are.
 impl PartialEq for Answers {
     ghost use Rattle.std.specs.Cmp as laws_of;
-    ghost use Rattle.cata_core.specs.AnswerEq.{answers_eq, answers_equiv};
+    ghost use Rattle.cata_core.specs.AnswerEq.{answers_eq};
+    ghost use Rattle.cata_core.specs.inner.AnswerEq.{answers_equiv};
 
     ghost eq = { answers_eq };
 
@@ -199,7 +201,7 @@ impl PartialEq for Answers {
 }
 
 impl Eq for Answers {
-    ghost use Rattle.cata_core.specs.AnswerEq.{answers_equiv};
+    ghost use Rattle.cata_core.specs.inner.AnswerEq.{answers_equiv};
 
     ghost laws = { answers_equiv };
 }

@@ -5,7 +5,7 @@ ghost use Rattle.std.specs.FinMap.Entries.{find};
 ghost use Rattle.cell_core.specs.Keyed.{IsMap};
 ghost use Rattle.cata_core.specs.Delta.{delta_of, is_missing};
 ghost use Rattle.cell_core.specs.Entry.{key_cmp};
-ghost use Rattle.cata_core.specs.DeltaSeeking.{IsRestAfter};
+ghost use Rattle.cata_core.specs.inner.DeltaSeeking.{IsRestAfter};
 
 use crate::summary::Summary;
 use catalogue::Catalogue;

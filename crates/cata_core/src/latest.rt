@@ -18,7 +18,8 @@ pub(crate) enum Latest {
 }
 
 impl Latest {
-    ghost use Rattle.cata_core.specs.LatestKnown.{IsKnownLatest, known_with};
+    ghost use Rattle.cata_core.specs.LatestKnown.{IsKnownLatest};
+    ghost use Rattle.cata_core.specs.inner.LatestKnown.{known_with};
 
     /// The latest stamp of these cells, of which this is known.
     pub(crate) fn of(self, catalogue: &Catalogue) -> Option<Stamp>

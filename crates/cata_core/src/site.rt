@@ -12,7 +12,8 @@ ghost use Rattle.cell_core.specs.Entry.{key_cmp};
 ghost use Rattle.catalogue.specs.Entries.{Agree, joined, Between};
 ghost use Rattle.catalogue.specs.CatalogueLatest.{latest_of, IsLatest};
 ghost use Rattle.catalogue.specs.CatalogueSettled.{IsSettledIn};
-ghost use Rattle.cata_core.specs.Site.{site_eq, site_equiv};
+ghost use Rattle.cata_core.specs.Site.{site_eq};
+ghost use Rattle.cata_core.specs.inner.Site.{site_equiv};
 
 use crate::delta::{Delta, missing_cells};
 use crate::latest::Latest;

@@ -170,7 +170,8 @@ impl Summary {
 /// Summaries are equal where their owners, their keys and their stamps are.
 impl PartialEq for Summary {
     ghost use Rattle.std.specs.Cmp as laws_of;
-    ghost use Rattle.cata_core.specs.SummaryEq.{summary_eq, summary_equiv};
+    ghost use Rattle.cata_core.specs.SummaryEq.{summary_eq};
+    ghost use Rattle.cata_core.specs.inner.SummaryEq.{summary_equiv};
 
     ghost eq = { summary_eq };
 
@@ -182,7 +183,7 @@ impl PartialEq for Summary {
 }
 
 impl Eq for Summary {
-    ghost use Rattle.cata_core.specs.SummaryEq.{summary_equiv};
+    ghost use Rattle.cata_core.specs.inner.SummaryEq.{summary_equiv};
 
     ghost laws = { summary_equiv };
 }

@@ -7,7 +7,8 @@ use Rattle.std.specs.Ordering.{is_lt, ordering_reverse}
 use Rattle.std.specs.FinMap.Entries.{put, by_order, is_sorted, below_all, is_sorted-put}
 use Rattle.std.proofs.lemmas.List.Elements.{All-nil, All-cons}
 use Rattle.cell_core.specs.Keyed.{IsMap}
-use Rattle.cell_core.specs.Entry.{EntryKey, key_cmp, key_cmp_total}
+use Rattle.cell_core.specs.Entry.{EntryKey, key_cmp}
+use Rattle.cell_core.specs.inner.Entry.{key_cmp_total}
 use Rattle.catalogue.specs.Entries.{IsAboveAll}
 use Rattle.cell_core.proofs.Basics.{first_part, second_part, less_than}
 use Rattle.catalogue.proofs.CatalogueFlatLemmas.{all_first, all_rest}

@@ -19,10 +19,11 @@ use Rattle.std.proofs.lemmas.Map.Lookups.{exact_pairs}
 use Rattle.cell_core.specs.Join.{JoinLaws}
 use Rattle.cell_core.specs.Keyed.{IsMap, AgreeIfBoth, joined_if_both, joined_maps, joined_entries}
 use Rattle.cell_core.specs.Keyed.{joined_at, AgreeMaps, BetweenMaps, BetweenIfBoth}
-use Rattle.cell_core.specs.KeyedLaws.{joined_maps-IsMap, joined_of_maps, find-joined_maps}
-use Rattle.cell_core.specs.KeyedLaws.{same_maps, at_of, if_both_laws, map_laws}
+use Rattle.cell_core.specs.inner.KeyedLaws.{joined_maps-IsMap, joined_of_maps, find-joined_maps}
+use Rattle.cell_core.specs.inner.KeyedLaws.{same_maps, at_of, if_both_laws, map_laws}
 use Rattle.cell_core.specs.Entry.{pair_cmp}
-use Rattle.catalogue.specs.CatalogueFlat.{under, flat, found_in, inner_of, IsInner, IsNested}
+use Rattle.catalogue.specs.CatalogueFlat.{under, flat, IsInner, IsNested}
+use Rattle.catalogue.specs.inner.CatalogueFlat.{found_in, inner_of}
 use Rattle.cell_core.proofs.JoinAbsentLemmas.{joined_with_none}
 use Rattle.cell_core.proofs.Basics.{first_part, second_part, both_parts, less_than}
 use Rattle.cell_core.proofs.Basics.{tied_order as tied}

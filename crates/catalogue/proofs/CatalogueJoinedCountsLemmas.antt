@@ -8,10 +8,10 @@ use Rattle.std.specs.FinMap.Entries.{find, length-put, is_sorted, below_all}
 use Rattle.cell_core.specs.declared.cell.Cell.{Cell}
 use Rattle.cell_core.specs.Cell.{joined_cells}
 use Rattle.cell_core.specs.Keyed.{IsMap, joined_at, joined_entries}
-use Rattle.cell_core.specs.KeyedLaws.{joined_entries-IsMap}
-use Rattle.cell_core.specs.KeyedLaws.{joined_of_maps}
-use Rattle.catalogue.specs.CatalogueCounts.{count_absent}
-use Rattle.cell_core.specs.Entry.{key_cmp, key_cmp_total}
+use Rattle.cell_core.specs.inner.KeyedLaws.{joined_entries-IsMap, joined_of_maps}
+use Rattle.catalogue.specs.inner.CatalogueCounts.{count_absent}
+use Rattle.cell_core.specs.Entry.{key_cmp}
+use Rattle.cell_core.specs.inner.Entry.{key_cmp_total}
 use Rattle.catalogue.specs.Entries.{Entry, Entries, joined}
 use Rattle.cell_core.proofs.Basics.{second_part}
 use Rattle.catalogue.proofs.CatalogueJoinedLatestLemmas.{found_first}

@@ -7,14 +7,15 @@ use Rattle.std.specs.Result.{is_ok}
 use Rattle.std.specs.FinMap.Entries.{find, put, by_order, is_sorted, below_all}
 use Rattle.cell_core.specs.declared.cell.Cell.{Cell}
 use Rattle.cell_core.specs.declared.stamp.Stamp.{Stamp}
-use Rattle.cell_core.specs.Cell.{joined_stamps, stamp_laws, joined_cells}
+use Rattle.cell_core.specs.Cell.{joined_stamps, joined_cells}
+use Rattle.cell_core.specs.inner.Cell.{stamp_laws}
 use Rattle.cell_core.specs.Keyed.{IsMap, joined_if_both, joined_at, joined_entries}
-use Rattle.cell_core.specs.KeyedLaws.{if_both_laws}
-use Rattle.cell_core.specs.KeyedLaws.{joined_of_maps, find-joined_entries}
+use Rattle.cell_core.specs.inner.KeyedLaws.{if_both_laws, joined_of_maps, find-joined_entries}
 use Rattle.cell_core.specs.Stamp.{stamp_cmp}
-use Rattle.cell_core.specs.Entry.{EntryKey, key_cmp, key_cmp_total}
+use Rattle.cell_core.specs.Entry.{EntryKey, key_cmp}
+use Rattle.cell_core.specs.inner.Entry.{key_cmp_total}
 use Rattle.catalogue.specs.Entries.{Entry, Entries, Agree, joined}
-use Rattle.catalogue.specs.Entries.{catalogue_laws}
+use Rattle.catalogue.specs.inner.Entries.{catalogue_laws}
 use Rattle.catalogue.specs.CatalogueLatest.{latest_of}
 use Rattle.cell_core.proofs.Basics.{first_part, second_part}
 use Rattle.catalogue.proofs.Basics.{some_same}

@@ -7,8 +7,9 @@ use Rattle.cell_core.specs.declared.cell.Cell.{Cell}
 use Rattle.cell_core.specs.Stamp.{stamp_cmp}
 use Rattle.cell_core.specs.Cell.{joined_cells}
 use Rattle.cell_core.specs.Keyed.{joined_if_both}
-use Rattle.cell_core.specs.KeyedLaws.{joined_maps-IsMap, find-joined_maps, same_maps}
-use Rattle.cell_core.specs.Entry.{EntryKey, key_cmp, key_cmp_total, key_cmp_exact}
+use Rattle.cell_core.specs.inner.KeyedLaws.{joined_maps-IsMap, find-joined_maps, same_maps}
+use Rattle.cell_core.specs.Entry.{EntryKey, key_cmp}
+use Rattle.cell_core.specs.inner.Entry.{key_cmp_total, key_cmp_exact}
 use Rattle.catalogue.specs.Entries.{Entry, joined}
 use Rattle.catalogue.specs.Edits.{catalogue_of, IsSettled}
 use Rattle.lang_core.proofs.Basics.{less_of}

@@ -13,9 +13,10 @@ use Rattle.std.specs.Ordering.{is_lt, eq_by_cmp, ordering_reverse}
 use Rattle.std.specs.FinMap.Entries.{find, put, by_order}
 use Rattle.cell_core.specs.declared.cell.Cell.{Cell}
 use Rattle.cell_core.specs.declared.stamp.Stamp.{Stamp}
-use Rattle.cell_core.specs.Cell.{AgreeStamps, joined_stamps, stamp_laws, stamp_cmp_total}
+use Rattle.cell_core.specs.Cell.{AgreeStamps, joined_stamps}
+use Rattle.cell_core.specs.inner.Cell.{stamp_laws, stamp_cmp_total}
 use Rattle.cell_core.specs.Keyed.{AgreeIfBoth, joined_if_both}
-use Rattle.cell_core.specs.KeyedLaws.{if_both_laws}
+use Rattle.cell_core.specs.inner.KeyedLaws.{if_both_laws}
 use Rattle.cell_core.specs.Stamp.{stamp_cmp, IsAbove}
 use Rattle.cell_core.specs.Entry.{EntryKey, key_cmp}
 use Rattle.catalogue.specs.Entries.{Entry, Entries}

@@ -10,15 +10,17 @@ use Rattle.std.specs.Cmp.Lexicographic.{nat_list_cmp_total}
 use Rattle.std.specs.FinMap.Entries.{find, put, find-put, find_tied, is_sorted-put}
 use Rattle.std.proofs.lemmas.Map.Lookups.{exact_bytes}
 use Rattle.cell_core.specs.declared.cell.Cell.{Cell}
-use Rattle.cell_core.specs.Cell.{joined_cells, cell_laws}
+use Rattle.cell_core.specs.Cell.{joined_cells}
+use Rattle.cell_core.specs.inner.Cell.{cell_laws}
 use Rattle.cell_core.specs.StampLater.{IsEitherOf}
 use Rattle.cell_core.specs.Keyed.{IsMap}
-use Rattle.cell_core.specs.KeyedLaws.{same_maps}
-use Rattle.catalogue.specs.CatalogueFlat.{flat, inner_of, IsInner}
+use Rattle.cell_core.specs.inner.KeyedLaws.{same_maps}
+use Rattle.catalogue.specs.CatalogueFlat.{flat, IsInner}
+use Rattle.catalogue.specs.inner.CatalogueFlat.{inner_of}
 use Rattle.cell_core.specs.Entry.{text_cmp, key_cmp}
 use Rattle.catalogue.specs.Entries.{Agree, joined, Between}
 use Rattle.catalogue.specs.CatalogueNested.{Nested, IsCatalogue, AgreeNested, joined_nested}
-use Rattle.catalogue.specs.CatalogueNested.{BetweenNested}
+use Rattle.catalogue.specs.inner.CatalogueNested.{BetweenNested}
 use Rattle.cell_core.proofs.Basics.{tied_order as tied}
 use Rattle.catalogue.proofs.CatalogueFlatLemmas.{put-flat, IsMap-flat, nested_put, inner_put}
 use Rattle.catalogue.proofs.CatalogueFlatLemmas.{agree_of_flat}

@@ -11,10 +11,10 @@ use Rattle.nego_core.specs.declared.widening.Widening.TheVariants.{Off}
 use Rattle.cell_core.specs.declared.cell.Cell.{Cell}
 use Rattle.cell_core.specs.Cell.{AgreeCells, joined_cells}
 use Rattle.cell_core.specs.Keyed.{IsMap, AgreeIfBoth, joined_if_both}
-use Rattle.cell_core.specs.KeyedLaws.{joined_maps-IsMap}
-use Rattle.cell_core.specs.KeyedLaws.{find-joined_maps, same_maps}
+use Rattle.cell_core.specs.inner.KeyedLaws.{joined_maps-IsMap, find-joined_maps, same_maps}
 use Rattle.catalogue.specs.declared.reply.Reply.{Reply}
-use Rattle.cell_core.specs.Entry.{EntryKey, key_cmp, key_cmp_total, key_cmp_exact, text_cmp}
+use Rattle.cell_core.specs.Entry.{EntryKey, key_cmp, text_cmp}
+use Rattle.cell_core.specs.inner.Entry.{key_cmp_total, key_cmp_exact}
 use Rattle.catalogue.specs.Entries.{Entry, Entries, Agree, joined}
 use Rattle.catalogue.specs.Live.{Labelled, live_of, live}
 use Rattle.catalogue.specs.Asking.{Weighed, IsFilteredOf, IsFilterAnswer, IsLookedUpIn}

@@ -6,10 +6,12 @@ use Rattle.std.specs.declared.cmp.Ordering.TheVariants.{Less}
 use Rattle.std.specs.FinMap.Entries.{find}
 use Rattle.cell_core.specs.declared.cell.Cell.{Cell}
 use Rattle.cell_core.specs.Stamp.{stamp_cmp}
-use Rattle.cell_core.specs.Cell.{AgreeCells, cell_laws}
+use Rattle.cell_core.specs.Cell.{AgreeCells}
+use Rattle.cell_core.specs.inner.Cell.{cell_laws}
 use Rattle.cell_core.specs.Keyed.{AgreeIfBoth}
-use Rattle.cell_core.specs.KeyedLaws.{at_of}
-use Rattle.cell_core.specs.Entry.{EntryKey, key_cmp, key_cmp_total, key_cmp_exact}
+use Rattle.cell_core.specs.inner.KeyedLaws.{at_of}
+use Rattle.cell_core.specs.Entry.{EntryKey, key_cmp}
+use Rattle.cell_core.specs.inner.Entry.{key_cmp_total, key_cmp_exact}
 use Rattle.catalogue.specs.Entries.{Entry, Agree}
 use Rattle.catalogue.specs.Entries.{joined}
 use Rattle.catalogue.specs.Edits.{IsBest, entries_of, catalogue_of, IsSettled, IsConsistent}

@@ -8,8 +8,10 @@ use Rattle.catalogue.proofs.CatalogueFlatLemmas.{find-flat}
 use Rattle.std.specs.Option.{is_some, is_none}
 use Rattle.std.specs.FinMap.Entries.{find, put, length-put}
 use Rattle.cell_core.specs.declared.cell.Cell.{Cell}
-use Rattle.catalogue.specs.CatalogueFlat.{flat, found_in, inner_of}
-use Rattle.cell_core.specs.Entry.{EntryKey, text_cmp, key_cmp, key_cmp_total}
+use Rattle.catalogue.specs.CatalogueFlat.{flat}
+use Rattle.catalogue.specs.inner.CatalogueFlat.{found_in, inner_of}
+use Rattle.cell_core.specs.Entry.{EntryKey, text_cmp, key_cmp}
+use Rattle.cell_core.specs.inner.Entry.{key_cmp_total}
 use Rattle.catalogue.specs.Entries.{Entries}
 use Rattle.catalogue.specs.CatalogueNested.{Inner, Nested, IsCatalogue}
 use Rattle.catalogue.proofs.CatalogueNestedLemmas.{IsMap-catalogue, flat-put}

@@ -6,11 +6,11 @@ use Rattle.std.specs.FinMap.Entries.{find}
 use Rattle.cell_core.specs.declared.cell.Cell.{Cell}
 use Rattle.cell_core.specs.declared.stamp.Stamp.{Stamp}
 use Rattle.cell_core.specs.Keyed.{IsMap}
-use Rattle.cell_core.specs.KeyedPlaces.{place_of}
+use Rattle.cell_core.specs.inner.KeyedPlaces.{place_of}
 use Rattle.catalogue.specs.declared.cell_refusal.CellRefusal.{CellRefusal}
 use Rattle.catalogue.specs.declared.cell_refusal.CellRefusal.TheVariants.{Clash, NoMemory}
 use Rattle.catalogue.specs.CataFault.{IsRefusal}
-use Rattle.catalogue.specs.CellRefusal.{IsCellRefusal, at_place}
+use Rattle.catalogue.specs.inner.CellRefusal.{IsCellRefusal, at_place}
 use Rattle.catalogue.specs.Clash.{IsFirstClash}
 use Rattle.cell_core.specs.Entry.{key_cmp}
 use Rattle.catalogue.specs.Entries.{Entry, Entries, Agree}

@@ -18,14 +18,15 @@ use Rattle.std.proofs.lemmas.Bool.{cases_Bool}
 use Rattle.std.proofs.lemmas.Bool.Decides.{Decides-and, Decides-like}
 use Rattle.cell_core.specs.declared.cell.Cell.{Cell}
 use Rattle.cell_core.specs.Keyed.{IsMap}
-use Rattle.cell_core.specs.KeyedLaws.{same_maps}
+use Rattle.cell_core.specs.inner.KeyedLaws.{same_maps}
 use Rattle.cell_core.specs.StampEq.{stamp_eq}
 use Rattle.cell_core.proofs.CellLemmas.{stamp_decides, label_decides}
 use Rattle.catalogue.specs.Changes.{Sides, Changed, is_same, change_of, AreChanges, AreMade}
 use Rattle.catalogue.specs.Changes.{made_at, exchanged}
 use Rattle.catalogue.specs.ChangesLeft.{only_after, only_before, by_order, beside_from}
 use Rattle.catalogue.specs.ChangesLeft.{side_by_side, differing}
-use Rattle.cell_core.specs.Entry.{EntryKey, key_cmp, key_cmp_total, key_cmp_exact}
+use Rattle.cell_core.specs.Entry.{EntryKey, key_cmp}
+use Rattle.cell_core.specs.inner.Entry.{key_cmp_total, key_cmp_exact}
 use Rattle.catalogue.specs.Entries.{Entry, Entries}
 use Rattle.catalogue.specs.Equality.{cell_eq}
 use Rattle.catalogue.specs.CatalogueParts.{part_of}

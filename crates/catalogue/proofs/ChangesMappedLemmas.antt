@@ -9,8 +9,7 @@ use Rattle.std.specs.Ordering.{is_lt, eq_by_cmp}
 use Rattle.std.specs.Cmp.{IsTotalOrder}
 use Rattle.std.specs.FinMap.Entries.{find, is_sorted, below_all}
 use Rattle.cell_core.specs.Keyed.{IsMap, AgreeIfBoth, joined_if_both, joined_maps}
-use Rattle.cell_core.specs.KeyedLaws.{joined_maps-IsMap}
-use Rattle.cell_core.specs.KeyedLaws.{find-joined_maps, same_maps}
+use Rattle.cell_core.specs.inner.KeyedLaws.{joined_maps-IsMap, find-joined_maps, same_maps}
 
 module _ {K J L : Type 0} (cmp : K → K → Ordering) (f : J → L) where
   abbrev mapped : List (K × J) → List (K × L)

@@ -6,11 +6,13 @@ use Rattle.std.specs.declared.cmp.Ordering.TheVariants.{Less}
 use Rattle.std.specs.Ordering.{is_eq, is_lt, eq_by_cmp, ordering_reverse}
 use Rattle.std.specs.FinMap.Entries.{find, is_sorted, below_all}
 use Rattle.cell_core.specs.declared.stamp.Stamp.{Stamp}
-use Rattle.cell_core.specs.Cell.{AgreeCells, cell_laws}
+use Rattle.cell_core.specs.Cell.{AgreeCells}
+use Rattle.cell_core.specs.inner.Cell.{cell_laws}
 use Rattle.cell_core.specs.Keyed.{IsMap, AgreeIfBoth}
-use Rattle.cell_core.specs.KeyedLaws.{at_of}
+use Rattle.cell_core.specs.inner.KeyedLaws.{at_of}
 use Rattle.cell_core.specs.declared.cell.Cell.{Cell}
-use Rattle.cell_core.specs.Entry.{EntryKey, key_cmp, key_cmp_total, key_cmp_exact}
+use Rattle.cell_core.specs.Entry.{EntryKey, key_cmp}
+use Rattle.cell_core.specs.inner.Entry.{key_cmp_total, key_cmp_exact}
 use Rattle.catalogue.specs.Entries.{Entries, Agree}
 use Rattle.catalogue.specs.Clash.{IsFirstClash}
 use Rattle.cell_core.proofs.Basics.{first_part, second_part, less_than}

@@ -20,11 +20,14 @@ use Rattle.cell_core.specs.declared.cell.Cell.{Cell}
 use Rattle.cell_core.specs.declared.stamp.Stamp.{Stamp}
 use Rattle.cell_core.specs.Cell.{AgreeCells}
 use Rattle.cell_core.specs.Keyed.{IsMap, AgreeMaps, AgreeIfBoth}
-use Rattle.cell_core.specs.KeyedPlaces.{place_of}
-use Rattle.cell_core.specs.Entry.{EntryKey, text_cmp, key_cmp, key_cmp_total, key_cmp_exact}
+use Rattle.cell_core.specs.inner.KeyedPlaces.{place_of}
+use Rattle.cell_core.specs.Entry.{EntryKey, text_cmp, key_cmp}
+use Rattle.cell_core.specs.inner.Entry.{key_cmp_total, key_cmp_exact}
 use Rattle.catalogue.specs.Entries.{Entry, Agree}
-use Rattle.catalogue.specs.CatalogueFlat.{under, flat, found_in}
-use Rattle.catalogue.specs.CatalogueNested.{Inner, Nested, IsCatalogue, IsCountable}
+use Rattle.catalogue.specs.CatalogueFlat.{under, flat}
+use Rattle.catalogue.specs.inner.CatalogueFlat.{found_in}
+use Rattle.catalogue.specs.CatalogueNested.{Inner, Nested, IsCatalogue}
+use Rattle.catalogue.specs.inner.CatalogueNested.{IsCountable}
 use Rattle.catalogue.specs.Clash.{AgreesAt, IsFirstClash}
 use Rattle.catalogue.proofs.Basics.{slice_get-front, some_same}
 use Rattle.catalogue.proofs.CatalogueFlatLemmas.{find-flat}

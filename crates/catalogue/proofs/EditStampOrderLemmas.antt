@@ -5,7 +5,7 @@ use Rattle.std.specs.Ordering.{is_lt, is_gt}
 use Rattle.std.specs.Cmp.{upto, tied_itself}
 use Rattle.cell_core.specs.declared.stamp.Stamp.{Stamp}
 use Rattle.cell_core.specs.Stamp.{stamp_cmp}
-use Rattle.cell_core.specs.Cell.{stamp_cmp_total, stamp_cmp_exact}
+use Rattle.cell_core.specs.inner.Cell.{stamp_cmp_total, stamp_cmp_exact}
 use Rattle.lang_core.proofs.Basics.{level_of}
 use Rattle.catalogue.proofs.Basics.{not_lt, not_less_of, turned_gt}
 

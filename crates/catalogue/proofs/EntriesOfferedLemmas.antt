@@ -23,9 +23,10 @@ use Rattle.nego_core.specs.Offer.{all_items, is_offered}
 use Rattle.nego_core.specs.Shortlist.{AreAmong}
 use Rattle.nego_core.proofs.OfferLemmas.{all_offered}
 use Rattle.cell_core.specs.declared.cell.Cell.{Cell}
-use Rattle.cell_core.specs.Entry.{EntryKey, key_cmp, key_cmp_total, key_cmp_exact, text_cmp}
+use Rattle.cell_core.specs.Entry.{EntryKey, key_cmp, text_cmp}
+use Rattle.cell_core.specs.inner.Entry.{key_cmp_total, key_cmp_exact}
 use Rattle.cell_core.specs.Keyed.{IsMap}
-use Rattle.cell_core.specs.KeyedLaws.{same_maps}
+use Rattle.cell_core.specs.inner.KeyedLaws.{same_maps}
 use Rattle.cell_core.specs.KeyedFound.{with_key}
 use Rattle.cell_core.proofs.Basics.{tied_order as tied}
 use Rattle.catalogue.proofs.Basics.{some_same}

@@ -9,7 +9,8 @@ use Rattle.std.specs.Cmp.Lexicographic.{nat_list_cmp_total}
 use Rattle.std.specs.FinMap.Entries.{find, below_all, is_sorted}
 use Rattle.cell_core.specs.declared.cell.Cell.{Cell}
 use Rattle.cell_core.specs.Keyed.{IsMap}
-use Rattle.catalogue.specs.CatalogueFlat.{under, flat, inner_of}
+use Rattle.catalogue.specs.CatalogueFlat.{under, flat}
+use Rattle.catalogue.specs.inner.CatalogueFlat.{inner_of}
 use Rattle.cell_core.specs.Entry.{text_cmp}
 use Rattle.catalogue.specs.Entries.{Entry, Entries}
 use Rattle.catalogue.specs.CatalogueNested.{Nested}

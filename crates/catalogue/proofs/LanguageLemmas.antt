@@ -16,8 +16,8 @@ use Rattle.list_core.proofs.Basics.{contains_first, contains_later}
 use Rattle.cell_core.specs.Keyed.{IsMap}
 use Rattle.cell_core.specs.Entry.{text_cmp}
 use Rattle.catalogue.specs.Entries.{Entries, Entry}
-use Rattle.catalogue.specs.Languages.{AddsLanguage, AreLanguages, LanguageMap, is_in, is_used}
-use Rattle.catalogue.specs.Languages.{texts_in}
+use Rattle.catalogue.specs.Languages.{AreLanguages, LanguageMap, is_in, is_used, texts_in}
+use Rattle.catalogue.specs.inner.Languages.{AddsLanguage}
 use Rattle.catalogue.specs.Live.{Labelled, languages, live, live_of}
 use Rattle.cell_core.proofs.Basics.{tied_order as tied}
 use Rattle.catalogue.proofs.CatalogueNestedLemmas.{text_exact}

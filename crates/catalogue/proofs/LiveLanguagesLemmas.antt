@@ -25,8 +25,10 @@ use Rattle.cell_core.specs.Entry.{text_cmp}
 use Rattle.nego_core.specs.Shortlist.{IsChosenBy as IsChosenAmong, IsThere}
 use Rattle.catalogue.specs.declared.reply.Reply.{Reply}
 use Rattle.catalogue.specs.declared.reply.Reply.TheVariants.{Matched, Default, Nothing}
-use Rattle.catalogue.specs.Asking.{Finds, IsChosenIn, IsLookedUpIn}
-use Rattle.catalogue.specs.LiveReplies.{IsOfLabels, IsReplyTo}
+use Rattle.catalogue.specs.Asking.{Finds, IsLookedUpIn}
+use Rattle.catalogue.specs.inner.Asking.{IsChosenIn}
+use Rattle.catalogue.specs.LiveReplies.{IsOfLabels}
+use Rattle.catalogue.specs.inner.LiveReplies.{IsReplyTo}
 use Rattle.std.specs.Prelude.{filter}
 use Rattle.nego_core.specs.Offer.{is_offered}
 use Rattle.catalogue.specs.Live.{Labelled, languages, is_live}

@@ -10,13 +10,14 @@ use Rattle.std.specs.FinMap.Entries.{find, below_all, is_sorted}
 use Rattle.list_core.specs.Item.{Item}
 use Rattle.nego_core.specs.declared.widening.Widening.{Widening}
 use Rattle.cell_core.specs.Keyed.{IsMap}
-use Rattle.cell_core.specs.KeyedLaws.{same_maps}
+use Rattle.cell_core.specs.inner.KeyedLaws.{same_maps}
 use Rattle.catalogue.specs.declared.reply.Reply.{Reply}
 use Rattle.catalogue.specs.declared.reply.Reply.TheVariants.{Matched, Default, Nothing}
 use Rattle.catalogue.specs.Asking.{IsLookedUpIn, IsLookupAnswerBy}
 use Rattle.cell_core.specs.Entry.{text_cmp}
 use Rattle.catalogue.specs.Entries.{Entries}
-use Rattle.catalogue.specs.CatalogueFlat.{flat, inner_of}
+use Rattle.catalogue.specs.CatalogueFlat.{flat}
+use Rattle.catalogue.specs.inner.CatalogueFlat.{inner_of}
 use Rattle.catalogue.specs.Live.{Labelled, live_of, live}
 use Rattle.catalogue.specs.LiveMessages.{LiveMessage, if_any, AreMessages}
 use Rattle.catalogue.specs.Messages.{with_live, live_messages}

@@ -8,7 +8,7 @@ use Rattle.std.specs.Ordering.{is_eq, is_lt, is_gt}
 use Rattle.std.specs.Cmp.{IsTotalOrder}
 use Rattle.std.specs.FinMap.Entries.{find, below_all, is_sorted}
 use Rattle.cell_core.specs.Keyed.{IsMap}
-use Rattle.cell_core.specs.KeyedPlaces.{place_of}
+use Rattle.cell_core.specs.inner.KeyedPlaces.{place_of}
 use Rattle.cell_core.proofs.KeyedPlacesLemmas.{below-trans, find-below}
 use Rattle.cell_core.proofs.Basics.{first_part, second_part}
 

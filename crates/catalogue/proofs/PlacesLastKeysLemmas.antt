@@ -9,7 +9,8 @@ use Rattle.std.proofs.lemmas.Bool.{cases_lt}
 use Rattle.std.proofs.lemmas.Option.{slice_get-get_or, slice_get_within, get_or_from_slice_get}
 use Rattle.cell_core.specs.declared.cell.Cell.{Cell}
 use Rattle.cell_core.specs.Keyed.{IsMap}
-use Rattle.cell_core.specs.Entry.{EntryKey, text_cmp, key_cmp, key_cmp_total}
+use Rattle.cell_core.specs.Entry.{EntryKey, text_cmp, key_cmp}
+use Rattle.cell_core.specs.inner.Entry.{key_cmp_total}
 use Rattle.catalogue.specs.Entries.{IsAboveAll}
 use Rattle.catalogue.specs.CatalogueFlat.{flat, IsInner}
 use Rattle.catalogue.specs.CatalogueNested.{Nested, IsCatalogue}

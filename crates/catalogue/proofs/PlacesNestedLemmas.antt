@@ -11,10 +11,11 @@ use Rattle.std.specs.Cmp.{IsTotalOrder}
 use Rattle.std.specs.Cmp.Lexicographic.{nat_list_cmp_total}
 use Rattle.std.specs.FinMap.Entries.{is_sorted, below_all}
 use Rattle.cell_core.specs.Keyed.{IsMap}
-use Rattle.cell_core.specs.KeyedPlaces.{place_of}
+use Rattle.cell_core.specs.inner.KeyedPlaces.{place_of}
 use Rattle.cell_core.specs.Entry.{EntryKey, pair_cmp, text_cmp, key_cmp}
 use Rattle.catalogue.specs.CatalogueFlat.{under, flat}
-use Rattle.catalogue.specs.CatalogueNested.{Inner, Nested, IsCountable}
+use Rattle.catalogue.specs.CatalogueNested.{Inner, Nested}
+use Rattle.catalogue.specs.inner.CatalogueNested.{IsCountable}
 use Rattle.cell_core.proofs.Basics.{first_part, second_part}
 use Rattle.catalogue.proofs.Basics.{slice_get-front}
 use Rattle.cell_core.proofs.KeyedPlacesLemmas.{below_tied, below-trans}

@@ -7,7 +7,7 @@ use Rattle.std.specs.Option.{is_some}
 use Rattle.std.specs.FinMap.Entries.{find}
 use Rattle.cell_core.specs.Entry.{text_cmp}
 use Rattle.cell_core.specs.KeyedFound.{with_key}
-use Rattle.catalogue.specs.ReplyBorrowed.{lent_pair}
+use Rattle.catalogue.specs.inner.ReplyBorrowed.{lent_pair}
 use Rattle.catalogue.specs.Live.{Labelled, is_live}
 
 nothing_of : {K J : Type 0} (k : K) (o : Option J) → None ≡ with_key k o → o ≡ None

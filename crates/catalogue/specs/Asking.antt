@@ -5,8 +5,6 @@ use Rattle.std.specs.FinMap.Entries.{find}
 use Rattle.lang_core.specs.Text.{pieces}
 use Rattle.list_core.specs.Item.{Item}
 use Rattle.nego_core.specs.declared.filtering.Pick.{Pick}
-use Rattle.nego_core.specs.declared.choosing.Choice.{Choice}
-use Rattle.nego_core.specs.declared.choosing.Choice.TheVariants as choice
 use Rattle.list_core.specs.declared.scheme.Scheme.{Scheme}
 use Rattle.nego_core.specs.declared.widening.Widening.{Widening}
 use Rattle.nego_core.specs.declared.widening.Widening.TheVariants.{Off, By}
@@ -46,16 +44,7 @@ abbrev pub Finds : Widening → Labelled → List Item → Option (List (List �
 Finds Off labels items = IsLookedUp items (is_live labels)
 Finds (By scheme) labels items = IsLookedUpWidened scheme items (languages labels)
 
--- what is chosen: the language found, or the default where that is live (project rule)
-abbrev pub IsChosenIn : Widening → Labelled → List Item → Option (List ℕ) → Choice → Type 0
-IsChosenIn widening labels items default (choice.Matched text) =
-    Finds widening labels items (Some (pieces text.now))
-IsChosenIn widening labels items default choice.Default =
-    Finds widening labels items None × HasOpenDefault items (is_live labels) default
-IsChosenIn widening labels items default choice.Nothing =
-    Finds widening labels items None × ¬ (HasOpenDefault items (is_live labels) default)
-
--- the same, each language with its label
+-- the language found, or the default where that is live (project rule), with its label
 abbrev pub IsLookedUpIn : Widening → Labelled → List Item → Option (List ℕ) → Reply → Type 0
 IsLookedUpIn widening labels items default (Matched lang label) =
     Finds widening labels items (Some (pieces lang)) × (find text_cmp lang labels ≡ Some label)

@@ -1,5 +1,5 @@
 -- What each refusal of a catalogue means, and what it leaves (project rules).
-use Rattle.std.specs.Prelude.{◌≡◌, ℕ, ⊤}
+use Rattle.std.specs.Prelude.{◌≡◌, ℕ}
 use Rattle.catalogue.specs.declared.cata_fault.CataFault.{CataFault}
 use Rattle.catalogue.specs.declared.cata_fault.CataFault.TheVariants.{StampReused, ClockSpent}
 use Rattle.catalogue.specs.declared.cata_fault.CataFault.TheVariants.{NotForMe, NoMemory}
@@ -19,12 +19,6 @@ abbrev pub IsRefusal : Entries → Entries → CataFault → Type 0
 IsRefusal own other (StampReused place stamp) = IsFirstClash key_cmp own other place stamp
 IsRefusal own other NoMemory = Agree own other
 IsRefusal own other _ = ⊥
-
--- a fault that cells can be refused by
-abbrev pub IsOfCells : CataFault → Type 0
-IsOfCells (StampReused place stamp) = ⊤
-IsOfCells NoMemory = ⊤
-IsOfCells _ = ⊥
 
 -- what a refusal leaves: all as it was, or for lack of memory at each key the old cell or the
 -- join's

@@ -1,8 +1,7 @@
 -- Maps of maps as one list of entries, in ascending order of both keys.
-use Rattle.std.specs.Prelude.{◌<◌, List, [], Option, Some, None, All, length, map}
+use Rattle.std.specs.Prelude.{◌<◌, List, All, length, map}
 use Rattle.std.specs.List.{flat_map}
 use Rattle.std.specs.declared.cmp.Ordering.{Ordering}
-use Rattle.std.specs.FinMap.Entries.{find}
 use Rattle.cell_core.specs.Keyed.{IsMap}
 
 -- the entries of one inner map, each with the outer key
@@ -12,16 +11,6 @@ under k es = map (λ e. ((k, e.0), e.1)) es
 -- the entries of all inner maps, in the order of the outer keys
 abbrev pub flat : {K L J : Type 0} → List (K × List (L × J)) → List ((K × L) × J)
 flat es = flat_map (λ e. under e.0 e.1) es
-
--- what an inner map, if there is one, has at a key
-abbrev pub found_in : {L J : Type 0} → (L → L → Ordering) → L → Option (List (L × J)) → Option J
-found_in Q l None = None
-found_in Q l (Some es) = find Q l es
-
--- the inner map, or an empty one
-abbrev pub inner_of : {X : Type 0} → Option (List X) → List X
-inner_of None = []
-inner_of (Some es) = es
 
 -- a map that is not empty
 pub record IsInner {L J : Type 0} (Q : L → L → Ordering) (es : List (L × J)) : Type 0 where

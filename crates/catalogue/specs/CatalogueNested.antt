@@ -1,9 +1,8 @@
 -- Catalogues as maps of maps, each seen as one list of entries.
-use Rattle.std.specs.Prelude.{◌≡◌, ℕ, ◌<◌, List, length}
+use Rattle.std.specs.Prelude.{◌≡◌, ℕ, List, length}
 use Rattle.cell_core.specs.declared.cell.Cell.{Cell}
 use Rattle.cell_core.specs.Cell.{AgreeCells, joined_cells}
-use Rattle.cell_core.specs.StampLater.{IsEitherOf}
-use Rattle.cell_core.specs.Keyed.{AgreeMaps, joined_maps, BetweenMaps}
+use Rattle.cell_core.specs.Keyed.{AgreeMaps, joined_maps}
 use Rattle.cell_core.specs.Entry.{text_cmp}
 use Rattle.catalogue.specs.CatalogueFlat.{flat, IsNested}
 
@@ -19,10 +18,6 @@ Nested = List (List ℕ × Inner)
 abbrev pub IsCatalogue : Nested → Type 0
 IsCatalogue = IsNested text_cmp text_cmp
 
--- so few cells that a number of 128 bits counts them
-abbrev pub IsCountable : Nested → Type 0
-IsCountable m = length (flat m) < 340282366920938463463374607431768211456
-
 -- what a catalogue keeps: no message is without a cell, and how many cells there are
 pub record IsKept (m : Nested) (len : ℕ) : Type 0 where
   pub nested : IsCatalogue m
@@ -35,7 +30,3 @@ AgreeNested = AgreeMaps text_cmp (AgreeMaps text_cmp AgreeCells)
 -- maps of maps, joined: at each message of either the one map of cells, or the two joined
 abbrev pub joined_nested : Nested → Nested → Nested
 joined_nested = joined_maps text_cmp (joined_maps text_cmp joined_cells)
-
--- a map of maps on the way from the first to its join with the last
-abbrev pub BetweenNested : Nested → Nested → Nested → Type 0
-BetweenNested = BetweenMaps text_cmp (BetweenMaps text_cmp (IsEitherOf joined_cells))

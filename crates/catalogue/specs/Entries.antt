@@ -1,13 +1,12 @@
 -- Catalogues as lists of entries in ascending order of key.
 use Rattle.std.specs.Prelude.{List}
 use Rattle.cell_core.specs.KeyedAbove.{IsAboveAll as IsAboveAllBy}
-use Rattle.cell_core.specs.Entry.{EntryKey, key_cmp, key_cmp_total, key_cmp_exact}
+use Rattle.cell_core.specs.Entry.{EntryKey, key_cmp}
 use Rattle.cell_core.specs.declared.cell.Cell.{Cell}
-use Rattle.cell_core.specs.Join.{JoinLaws, IsBelow}
-use Rattle.cell_core.specs.Cell.{AgreeCells, joined_cells, cell_laws}
+use Rattle.cell_core.specs.Join.{IsBelow}
+use Rattle.cell_core.specs.Cell.{AgreeCells, joined_cells}
 use Rattle.cell_core.specs.StampLater.{IsEitherOf}
 use Rattle.cell_core.specs.Keyed.{AgreeMaps, joined_maps, BetweenMaps}
-use Rattle.cell_core.specs.KeyedLaws.{map_laws}
 
 -- the key is greater than all that are there
 abbrev pub IsAboveAll : {J : Type 0} → EntryKey → List (EntryKey × J) → Type 0
@@ -36,7 +35,3 @@ Between = BetweenMaps key_cmp (IsEitherOf joined_cells)
 -- the second catalogue is above the first
 abbrev pub IsBelowCells : Entries → Entries → Type 0
 IsBelowCells = IsBelow Agree joined
-
--- catalogues keep the laws of the join
-pub catalogue_laws : JoinLaws Agree joined Between
-catalogue_laws = map_laws key_cmp key_cmp_total key_cmp_exact cell_laws

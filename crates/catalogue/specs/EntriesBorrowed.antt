@@ -1,7 +1,6 @@
 -- Lists of languages with labels and weights, borrowed and owned.
 use Rattle.std.specs.Prelude.{ℕ, List, Option, Some, None, map}
 use Rattle.std.specs.Borrow.{Bor}
-use Rattle.catalogue.specs.Live.{Labelled}
 
 -- a list of languages with labels and weights that are borrowed, as values
 abbrev pub weighed_of : List (Bor (List ℕ) × Bor (List (List ℕ)) × ℕ)
@@ -13,7 +12,3 @@ abbrev pub lent_weighed : Option (Bor (List ℕ) × Bor (List (List ℕ)) × ℕ
     → Option (List ℕ × List (List ℕ) × ℕ)
 lent_weighed None = None
 lent_weighed (Some x) = Some (x.0.now, x.1.now, x.2)
-
--- the borrowed pairs, as values
-abbrev pub labelled_of : List (Bor (List ℕ) × Bor (List (List ℕ))) → Labelled
-labelled_of items = map (λ x. (x.0.now, x.1.now)) items

@@ -2,12 +2,10 @@
 use Rattle.std.specs.Prelude.{ℕ, Bool, List}
 use Rattle.std.specs.Borrow.{Bor}
 use Rattle.std.specs.Ordering.{eq_by_cmp, on, eq_of_both}
-use Rattle.std.specs.Cmp.{IsEquivalence, eq_by_cmp_equiv, and_equiv, on_equiv}
-use Rattle.std.specs.Cmp.Lexicographic.{pointwise, lists_equiv}
+use Rattle.std.specs.Cmp.Lexicographic.{pointwise}
 use Rattle.cell_core.specs.declared.cell.Cell.{Cell}
 use Rattle.cell_core.specs.contracts.cell.CellPartialEq.TheImpl as cell_impl
-use Rattle.cell_core.specs.contracts.cell.CellEq.TheImpl.Laws as cell_laws
-use Rattle.cell_core.specs.Entry.{key_cmp, key_cmp_total}
+use Rattle.cell_core.specs.Entry.{key_cmp}
 use Rattle.catalogue.specs.Entries.{Entry, Entries}
 
 -- what `==` says of two cells, by what its derive states: that they are equal exactly where the
@@ -19,12 +17,6 @@ cell_eq = (cell_impl.ghosts).eq
 abbrev pub entry_eq : Entry → Entry → Bool
 entry_eq = eq_of_both (on (λ e. e.0) (eq_by_cmp key_cmp)) (on (λ e. e.1) cell_eq)
 
--- equality of entries is an equivalence
-pub entry_equiv : IsEquivalence entry_eq
-entry_equiv =
-    and_equiv (on_equiv (λ (e : Entry). e.0) (eq_by_cmp_equiv key_cmp_total))
-    (on_equiv (λ (e : Entry). e.1) cell_laws.laws-law)
-
 -- an entry seen through references
 abbrev pub seen : Bor (List ℕ) × Bor (List ℕ) × Bor Cell → Entry
 seen e = ((e.0.now, e.1.now), e.2.now)
@@ -32,7 +24,3 @@ seen e = ((e.0.now, e.1.now), e.2.now)
 -- the same entries in the same order
 abbrev pub entries_eq : Entries → Entries → Bool
 entries_eq = pointwise entry_eq
-
--- equality of catalogues is an equivalence
-pub entries_equiv : IsEquivalence entries_eq
-entries_equiv = lists_equiv entry_equiv

@@ -1,5 +1,5 @@
 -- The languages of a catalogue.
-use Rattle.std.specs.Prelude.{◌≡◌, ◌&&◌, ◌||◌, ℕ, Bool, List, map}
+use Rattle.std.specs.Prelude.{◌≡◌, ◌&&◌, ℕ, Bool, List, map}
 use Rattle.std.specs.List.{list_any}
 use Rattle.std.specs.Option.{is_some}
 use Rattle.std.specs.Ordering.{is_eq}
@@ -28,8 +28,3 @@ is_used cells lang = list_any (λ e. is_some e.1.label && is_eq (text_cmp lang e
 pub record AreLanguages (cells : Entries) (langs : LanguageMap) : Type 0 where
   pub ascend : IsMap text_cmp langs
   pub each : (lang : List ℕ) → is_in langs lang ≡ is_used cells lang
-
--- one language more, where it is not there yet
-pub record AddsLanguage (old : LanguageMap) (lang : List ℕ) (new : LanguageMap) : Type 0 where
-  pub ascend : IsMap text_cmp new
-  pub each : (other : List ℕ) → is_in new other ≡ (is_eq (text_cmp other lang) || is_in old other)

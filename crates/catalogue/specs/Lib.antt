@@ -1,12 +1,10 @@
 pub mod Asking
 pub mod CataFault
-pub mod CatalogueCounts
 pub mod CatalogueFlat
 pub mod CatalogueLatest
 pub mod CatalogueNested
 pub mod CatalogueParts
 pub mod CatalogueSettled
-pub mod CellRefusal
 pub mod Cells
 pub mod Changes
 pub mod ChangesLeft
@@ -20,9 +18,8 @@ pub mod Equality
 pub mod Labels
 pub mod Languages
 pub mod Live
-pub mod LiveIn
 pub mod LiveMessages
 pub mod LiveReplies
 pub mod Messages
 pub mod Reply
-pub mod ReplyBorrowed
+pub mod inner

@@ -4,7 +4,8 @@ ghost use Rattle.std.specs.Prelude.{ℕ, ◌<◌, MatchOption, length};
 ghost use Rattle.catalogue.specs.CatalogueFlat.{flat};
 ghost use Rattle.cell_core.specs.Entry.{text_cmp, key_cmp};
 ghost use Rattle.catalogue.specs.Entries.{Agree};
-ghost use Rattle.catalogue.specs.CatalogueNested.{IsCatalogue, IsCountable};
+ghost use Rattle.catalogue.specs.CatalogueNested.{IsCatalogue};
+ghost use Rattle.catalogue.specs.inner.CatalogueNested.{IsCountable};
 ghost use Rattle.catalogue.specs.Clash.{AgreesAt, IsFirstClash};
 
 use cell_core::{Cell, Join, Keyed, MessageId, Stamp};

@@ -3,7 +3,8 @@
 ghost use Rattle.std.specs.Prelude.{◌≡◌, length, slice_get, IfOk, IsTrue, ◌↔◌, []};
 ghost use Rattle.catalogue.specs.Asking.{picked, with_weight};
 ghost use Rattle.std.specs.Slice.Iter.{iter_rest};
-ghost use Rattle.catalogue.specs.EntriesBorrowed.{lent_weighed, labelled_of, weighed_of};
+ghost use Rattle.catalogue.specs.EntriesBorrowed.{lent_weighed, weighed_of};
+ghost use Rattle.catalogue.specs.inner.EntriesBorrowed.{labelled_of};
 
 use cell_core::Label;
 use lang_core::Lang;
@@ -136,7 +137,8 @@ impl Entries {
 /// Answers of a filter are equal where their languages, labels and weights are.
 impl PartialEq for Entries {
     ghost use Rattle.std.specs.Cmp as laws_of;
-    ghost use Rattle.catalogue.specs.EntriesEq.{weighed_eq, weighed_equiv};
+    ghost use Rattle.catalogue.specs.EntriesEq.{weighed_eq};
+    ghost use Rattle.catalogue.specs.inner.EntriesEq.{weighed_equiv};
 
     ghost eq = { weighed_eq };
 
@@ -148,7 +150,7 @@ impl PartialEq for Entries {
 }
 
 impl Eq for Entries {
-    ghost use Rattle.catalogue.specs.EntriesEq.{weighed_equiv};
+    ghost use Rattle.catalogue.specs.inner.EntriesEq.{weighed_equiv};
 
     ghost laws = { weighed_equiv };
 }

@@ -3,8 +3,8 @@
 ghost use Rattle.std.specs.Prelude.{◌≡◌};
 ghost use Rattle.std.specs.Cmp as laws_of;
 ghost use Rattle.catalogue.specs.Cells.{cells_left};
-ghost use Rattle.catalogue.specs.Equality.{entry_eq, entry_equiv, entries_eq, entries_equiv};
-ghost use Rattle.catalogue.specs.Equality.{seen};
+ghost use Rattle.catalogue.specs.Equality.{entry_eq, entries_eq, seen};
+ghost use Rattle.catalogue.specs.inner.Equality.{entry_equiv, entries_equiv};
 
 use crate::catalogue::Catalogue;
 use crate::cells::Cells;

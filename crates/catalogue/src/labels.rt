@@ -16,7 +16,7 @@ pub struct Labels<'a> {
 
 impl<'a> Labels<'a> {
     ghost use Rattle.std.specs.Option.{option_copied};
-    ghost use Rattle.catalogue.specs.CatalogueFlat.{inner_of};
+    ghost use Rattle.catalogue.specs.inner.CatalogueFlat.{inner_of};
     ghost use Rattle.cell_core.specs.Keyed.{IsMap};
     ghost use Rattle.cell_core.specs.Entry.{text_cmp};
     ghost use Rattle.catalogue.specs.Live.{live_of};

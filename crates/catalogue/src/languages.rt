@@ -6,7 +6,8 @@ ghost use Rattle.std.specs.FinMap.Entries.{find};
 ghost use Rattle.cell_core.specs.Keyed.{IsMap};
 ghost use Rattle.nego_core.specs.Filtering.{texts_of};
 ghost use Rattle.cell_core.specs.Entry.{text_cmp};
-ghost use Rattle.catalogue.specs.Languages.{AddsLanguage, AreLanguages, texts_in};
+ghost use Rattle.catalogue.specs.Languages.{AreLanguages, texts_in};
+ghost use Rattle.catalogue.specs.inner.Languages.{AddsLanguage};
 
 use crate::catalogue::Catalogue;
 use cell_core::{Key, Keyed};

@@ -10,7 +10,7 @@ ghost use Rattle.nego_core.specs.Offer.{is_offered, items_of};
 ghost use Rattle.nego_core.specs.WidenedChoice.{MatchEarliest};
 ghost use Rattle.std.specs.Option.{option_map};
 ghost use Rattle.cell_core.specs.KeyedFound.{with_key};
-ghost use Rattle.catalogue.specs.ReplyBorrowed.{lent_pair};
+ghost use Rattle.catalogue.specs.inner.ReplyBorrowed.{lent_pair};
 
 use crate::labels::Labels;
 use crate::reply::LentReply;
@@ -31,11 +31,13 @@ pub(crate) struct Live<'a, 'o> {
 
 impl<'a, 'o> Live<'a, 'o> {
     ghost use Rattle.std.specs.Option.{option_copied};
-    ghost use Rattle.catalogue.specs.Asking.{IsChosenIn, IsLookedUpIn};
-    ghost use Rattle.catalogue.specs.CatalogueFlat.{inner_of};
+    ghost use Rattle.catalogue.specs.Asking.{IsLookedUpIn};
+    ghost use Rattle.catalogue.specs.inner.Asking.{IsChosenIn};
+    ghost use Rattle.catalogue.specs.inner.CatalogueFlat.{inner_of};
     ghost use Rattle.catalogue.specs.Reply.{reply_of};
-    ghost use Rattle.catalogue.specs.LiveIn.{live_in};
-    ghost use Rattle.catalogue.specs.LiveReplies.{IsOfLabels, IsReplyTo};
+    ghost use Rattle.catalogue.specs.inner.LiveIn.{live_in};
+    ghost use Rattle.catalogue.specs.LiveReplies.{IsOfLabels};
+    ghost use Rattle.catalogue.specs.inner.LiveReplies.{IsReplyTo};
     ghost use Rattle.nego_core.specs.Shortlist.{AreAmong, IsThere};
 
     /// The live labels of these cells that are offered.
@@ -125,7 +127,7 @@ impl<'a, 'o> Live<'a, 'o> {
 
 impl Holds for Live<'_, '_> {
     ghost use Rattle.catalogue.specs.Live.{is_live};
-    ghost use Rattle.catalogue.specs.LiveIn.{live_in};
+    ghost use Rattle.catalogue.specs.inner.LiveIn.{live_in};
 
     ghost held = { λ l. is_live (live_in l) };
 
@@ -136,7 +138,7 @@ impl Holds for Live<'_, '_> {
 
 impl Languages for Live<'_, '_> {
     ghost use Rattle.catalogue.specs.Live.{languages};
-    ghost use Rattle.catalogue.specs.LiveIn.{live_in};
+    ghost use Rattle.catalogue.specs.inner.LiveIn.{live_in};
 
     ghost texts = { λ l. languages (live_in l) };
 

@@ -2,10 +2,11 @@
 
 ghost use Rattle.std.specs.Prelude.{◌≡◌, ◌-◌, length, slice_get};
 ghost use Rattle.std.specs.Option.{option_map};
-ghost use Rattle.cell_core.specs.KeyedPlaces.{place_of};
+ghost use Rattle.cell_core.specs.inner.KeyedPlaces.{place_of};
 ghost use Rattle.catalogue.specs.CatalogueFlat.{flat};
 ghost use Rattle.cell_core.specs.Entry.{text_cmp, key_cmp};
-ghost use Rattle.catalogue.specs.CatalogueNested.{IsCatalogue, IsCountable};
+ghost use Rattle.catalogue.specs.CatalogueNested.{IsCatalogue};
+ghost use Rattle.catalogue.specs.inner.CatalogueNested.{IsCountable};
 
 use cell_core::{Cell, Keyed, MessageId};
 use lang_core::Lang;

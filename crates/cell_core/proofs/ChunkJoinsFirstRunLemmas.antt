@@ -11,8 +11,9 @@ use Rattle.std.specs.declared.vec.Vec.{Vec}
 use Rattle.std.specs.FinMap.Entries.{find, is_sorted, below_all}
 use Rattle.std.proofs.lemmas.List.{drop_all, take_all, get_or_append_left, length-append}
 use Rattle.cell_core.specs.Keyed.{IsMap}
-use Rattle.cell_core.specs.KeyedPlaces.{place_of}
-use Rattle.cell_core.specs.Chunks.{all_of, IsChunked, IsChunkFor, IsRunFor}
+use Rattle.cell_core.specs.inner.KeyedPlaces.{place_of}
+use Rattle.cell_core.specs.Chunks.{all_of, IsChunked}
+use Rattle.cell_core.specs.inner.Chunks.{IsChunkFor, IsRunFor}
 use Rattle.cell_core.proofs.Basics.{first_part, some_not_none, tied_order}
 use Rattle.cell_core.proofs.KeyedPlacesLemmas.{find-take, below-at}
 use Rattle.cell_core.proofs.KeyedWalkLemmas.{above}

@@ -21,11 +21,11 @@ use Rattle.std.specs.FinMap.Entries.{find, is_sorted, below_all}
 use Rattle.cell_core.specs.Join.{JoinLaws}
 use Rattle.cell_core.specs.Keyed.{IsMap, AgreeIfBoth, joined_if_both, BetweenIfBoth, BetweenAtKeys}
 use Rattle.cell_core.specs.Keyed.{IsJoinedWith, joined_maps}
-use Rattle.cell_core.specs.KeyedLaws.{joined_maps-IsMap, find-joined_maps}
-use Rattle.cell_core.specs.KeyedLaws.{same_maps}
-use Rattle.cell_core.specs.KeyedPlaces.{place_of}
-use Rattle.cell_core.specs.InterleaveMissing.{or_other}
-use Rattle.cell_core.specs.Chunks.{all_of, IsChunked, IsRunFor}
+use Rattle.cell_core.specs.inner.KeyedLaws.{joined_maps-IsMap, find-joined_maps, same_maps}
+use Rattle.cell_core.specs.inner.KeyedPlaces.{place_of}
+use Rattle.cell_core.specs.inner.InterleaveMissing.{or_other}
+use Rattle.cell_core.specs.Chunks.{all_of, IsChunked}
+use Rattle.cell_core.specs.inner.Chunks.{IsRunFor}
 use Rattle.cell_core.proofs.JoinAbsentLemmas.{joined_with_none, agree_none, either_agrees}
 use Rattle.cell_core.proofs.JoinAbsentLemmas.{sub_agree}
 use Rattle.cell_core.proofs.JoinAbsentLemmas.{whole_joined, whole_between, joined_from}

@@ -17,8 +17,9 @@ use Rattle.std.specs.List.{insert}
 use Rattle.std.specs.declared.vec.Vec.{Vec}
 use Rattle.std.specs.FinMap.Entries.{find, put, by_order, is_sorted-put, is_sorted, below_all}
 use Rattle.cell_core.specs.Keyed.{IsMap}
-use Rattle.cell_core.specs.KeyedPlaces.{place_of}
-use Rattle.cell_core.specs.Chunks.{all_of, AllFilled, IsChunked, IsChunkFor}
+use Rattle.cell_core.specs.inner.KeyedPlaces.{place_of}
+use Rattle.cell_core.specs.Chunks.{all_of, AllFilled, IsChunked}
+use Rattle.cell_core.specs.inner.Chunks.{IsChunkFor}
 use Rattle.cell_core.proofs.Basics.{first_part, second_part, both_parts, less_than}
 use Rattle.cell_core.proofs.KeyedPlacesLemmas.{below-trans, find-below}
 use Rattle.cell_core.proofs.KeyedWalkLemmas.{above_above, above}

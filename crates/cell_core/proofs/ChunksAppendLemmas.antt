@@ -14,8 +14,9 @@ use Rattle.std.proofs.lemmas.List.{drop_all, get_or-append-add, get_or_append_le
 use Rattle.std.proofs.lemmas.List.{get_or_default}
 use Rattle.std.proofs.lemmas.Option.{get_or_from_slice_get, slice_get-get_or, slice_get_read}
 use Rattle.cell_core.specs.Keyed.{IsMap}
-use Rattle.cell_core.specs.KeyedPlaces.{place_of, IsPlace, IsGap}
-use Rattle.cell_core.specs.Chunks.{all_of, AllFilled, IsChunked, IsPlaceIn}
+use Rattle.cell_core.specs.inner.KeyedPlaces.{place_of, IsPlace, IsGap}
+use Rattle.cell_core.specs.Chunks.{all_of, AllFilled, IsChunked}
+use Rattle.cell_core.specs.inner.Chunks.{IsPlaceIn}
 use Rattle.cell_core.proofs.Basics.{some_not_none}
 use Rattle.cell_core.proofs.KeyedWalkLemmas.{gap_at_end, place_found_in_map}
 use Rattle.cell_core.proofs.ChunkLemmas.{all_of-split, all_of-set, filled_at, chunk_map}

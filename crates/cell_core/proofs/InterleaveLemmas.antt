@@ -17,10 +17,9 @@ use Rattle.std.specs.List.{insert}
 use Rattle.std.specs.FinMap.Entries.{find, put, by_order, is_sorted, below_all, is_sorted-put}
 use Rattle.std.specs.FinMap.Entries.{find-put, find_tied, is_sorted-where_key, find-where_key}
 use Rattle.cell_core.specs.Keyed.{IsMap, joined_if_both}
-use Rattle.cell_core.specs.KeyedPlaces.{place_of}
-use Rattle.cell_core.specs.InterleaveMissing.{pairs_of, AllGaps, AllFrom, or_other, kept_joined}
-use Rattle.cell_core.specs.InterleaveMissing.{is_new}
-use Rattle.cell_core.specs.InterleaveMissing.{IsCommonJoined}
+use Rattle.cell_core.specs.inner.KeyedPlaces.{place_of}
+use Rattle.cell_core.specs.inner.InterleaveMissing.{pairs_of, AllGaps, AllFrom, or_other}
+use Rattle.cell_core.specs.inner.InterleaveMissing.{kept_joined, is_new, IsCommonJoined}
 use Rattle.cell_core.proofs.Basics.{first_part, second_part, less_than, some_not_none, tied_order}
 use Rattle.cell_core.proofs.KeyedPlacesLemmas.{place_of-le, put_at_gap}
 use Rattle.cell_core.proofs.KeyedWalkLemmas.{above, below, above_above, place_ascends}

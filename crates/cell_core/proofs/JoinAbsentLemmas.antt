@@ -2,8 +2,8 @@
 use Rattle.std.proofs.Common.{◌≡◌, Option, Some, None, sym, ap, ◌∙◌, subst, refl}
 use Rattle.cell_core.specs.Join.{JoinLaws}
 use Rattle.cell_core.specs.Keyed.{AgreeIfBoth, joined_if_both, BetweenIfBoth}
-use Rattle.cell_core.specs.KeyedLaws.{if_both_laws}
-use Rattle.cell_core.specs.InterleaveMissing.{or_other}
+use Rattle.cell_core.specs.inner.KeyedLaws.{if_both_laws}
+use Rattle.cell_core.specs.inner.InterleaveMissing.{or_other}
 use Rattle.cell_core.proofs.Basics.{some_not_none}
 use Rattle.cell_core.proofs.InterleaveLemmas.{or_none}
 

@@ -12,7 +12,7 @@ use Rattle.std.specs.Ordering.{is_gt, is_eq}
 use Rattle.std.specs.Cmp.{IsTotalOrder}
 use Rattle.std.specs.FinMap.Entries.{find}
 use Rattle.cell_core.specs.KeyedAbove.{IsAboveAll}
-use Rattle.cell_core.specs.KeyedPlaces.{place_of, IsGap}
+use Rattle.cell_core.specs.inner.KeyedPlaces.{place_of, IsGap}
 use Rattle.cell_core.specs.Chunks.{all_of, AllFilled}
 use Rattle.cell_core.proofs.Basics.{some_not_none, is_greater}
 use Rattle.cell_core.proofs.KeyedWalkLemmas.{above, below}

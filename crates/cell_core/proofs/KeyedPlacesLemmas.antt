@@ -19,7 +19,7 @@ use Rattle.std.proofs.lemmas.List.{take_more}
 use Rattle.std.proofs.lemmas.List.Edits.{insert_end}
 use Rattle.cell_core.specs.KeyedFound.{with_key}
 use Rattle.cell_core.specs.Keyed.{IsMap, AgreeIfBoth}
-use Rattle.cell_core.specs.KeyedPlaces.{place_of, IsPlace, IsGap}
+use Rattle.cell_core.specs.inner.KeyedPlaces.{place_of, IsPlace, IsGap}
 use Rattle.cell_core.proofs.Basics.{first_part, second_part, both_parts, less_than, some_not_none}
 use Rattle.cell_core.proofs.Basics.{tied_order}
 

@@ -8,7 +8,7 @@ use Rattle.std.specs.Cmp.{IsTotalOrder}
 use Rattle.std.specs.FinMap.Entries.{is_sorted, below_all}
 use Rattle.std.proofs.lemmas.List.{get_or_default}
 use Rattle.cell_core.specs.Keyed.{IsMap}
-use Rattle.cell_core.specs.KeyedPlaces.{place_of, IsPlace, IsGap}
+use Rattle.cell_core.specs.inner.KeyedPlaces.{place_of, IsPlace, IsGap}
 use Rattle.cell_core.proofs.Basics.{first_part, second_part}
 use Rattle.cell_core.proofs.KeyedPlacesLemmas.{below-at, place_of-le, gap_at}
 

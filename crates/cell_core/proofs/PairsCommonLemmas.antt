@@ -15,11 +15,11 @@ use Rattle.std.proofs.lemmas.List.{take_more}
 use Rattle.std.proofs.lemmas.List.Elements.{filter-append}
 use Rattle.cell_core.specs.Join.{JoinLaws}
 use Rattle.cell_core.specs.Keyed.{IsMap, AgreeIfBoth, joined_if_both, BetweenIfBoth}
-use Rattle.cell_core.specs.KeyedLaws.{if_both_laws}
+use Rattle.cell_core.specs.inner.KeyedLaws.{if_both_laws}
 use Rattle.cell_core.specs.Keyed.{BetweenAtKeys}
-use Rattle.cell_core.specs.KeyedPlaces.{place_of, IsPlace, IsGap}
-use Rattle.cell_core.specs.InterleaveMissing.{pairs_of, AllGaps, or_other, kept_joined, is_new}
-use Rattle.cell_core.specs.InterleaveMissing.{IsCommonJoined}
+use Rattle.cell_core.specs.inner.KeyedPlaces.{place_of, IsPlace, IsGap}
+use Rattle.cell_core.specs.inner.InterleaveMissing.{pairs_of, AllGaps, or_other, kept_joined}
+use Rattle.cell_core.specs.inner.InterleaveMissing.{is_new, IsCommonJoined}
 use Rattle.cell_core.proofs.Basics.{tied_order}
 use Rattle.cell_core.proofs.KeyedPlacesLemmas.{place_of-le, find_at_place, put_at_place, find-take}
 use Rattle.cell_core.proofs.KeyedPlacesLemmas.{find-take_more, find-before, find_entry}

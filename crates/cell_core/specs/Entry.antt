@@ -1,11 +1,8 @@
 -- The keys of entries, and their order (project rules).
-use Rattle.std.specs.Prelude.{◌≡◌, ℕ, List}
+use Rattle.std.specs.Prelude.{ℕ, List}
 use Rattle.std.specs.declared.cmp.Ordering.{Ordering}
-use Rattle.std.specs.declared.cmp.Ordering.TheVariants.{Equal}
 use Rattle.std.specs.Ordering.{nat_cmp, ordering_then}
-use Rattle.std.specs.Cmp.{IsTotalOrder, on_total, then_total}
-use Rattle.std.specs.Cmp.Lexicographic.{slice_cmp, nat_list_cmp_total}
-use Rattle.std.proofs.lemmas.Map.Lookups.{exact_pairs, exact_bytes}
+use Rattle.std.specs.Cmp.Lexicographic.{slice_cmp}
 
 -- the bytes of a message's id and of a language
 abbrev pub EntryKey : Type 0
@@ -23,13 +20,3 @@ pair_cmp P Q x y = ordering_then (P x.0 y.0) (Q x.1 y.1)
 -- by the id, then by the language
 abbrev pub key_cmp : EntryKey → EntryKey → Ordering
 key_cmp = pair_cmp text_cmp text_cmp
-
--- the order of keys is total
-pub key_cmp_total : IsTotalOrder key_cmp
-key_cmp_total =
-    then_total (on_total (λ (k : EntryKey). k.0) nat_list_cmp_total)
-    (on_total (λ (k : EntryKey). k.1) nat_list_cmp_total)
-
--- keys that compare equal are one
-pub key_cmp_exact : (a b : EntryKey) → key_cmp a b ≡ Equal → a ≡ b
-key_cmp_exact = exact_pairs text_cmp text_cmp exact_bytes exact_bytes

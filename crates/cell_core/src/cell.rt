@@ -2,7 +2,8 @@
 
 ghost use Rattle.std.specs.Prelude.{◌≡◌, OnOk, OnErr};
 ghost use Rattle.std.specs.Option.{option_copied};
-ghost use Rattle.cell_core.specs.Cell.{AgreeCells, joined_cells, cell_laws};
+ghost use Rattle.cell_core.specs.Cell.{AgreeCells, joined_cells};
+ghost use Rattle.cell_core.specs.inner.Cell.{cell_laws};
 ghost use Rattle.cell_core.specs.StampLater.{IsEitherOf};
 
 use crate::join::Join;

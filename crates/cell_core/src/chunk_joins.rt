@@ -5,8 +5,9 @@ ghost use Rattle.std.specs.Prelude.{◌≡◌, ◌<◌, ◌≤◌, ◌↔◌, If
 ghost use Rattle.std.specs.FinMap.Entries.{find};
 ghost use Rattle.std.specs.Vec.{vec_len};
 ghost use Rattle.cell_core.specs.Keyed.{IsMap, AgreeIfBoth, BetweenAtKeys, IsJoinedWith};
-ghost use Rattle.cell_core.specs.Chunks.{all_of, entries_of, IsChunked, IsKept, IsRunFor};
-ghost use Rattle.cell_core.specs.KeyedPlaces.{place_of};
+ghost use Rattle.cell_core.specs.Chunks.{all_of, entries_of, IsChunked, IsKept};
+ghost use Rattle.cell_core.specs.inner.Chunks.{IsRunFor};
+ghost use Rattle.cell_core.specs.inner.KeyedPlaces.{place_of};
 
 use crate::chunks::{Chunks, bisect, chunk_for, cut_if_full};
 use crate::interleave::join_pairs;

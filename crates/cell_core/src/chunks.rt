@@ -9,9 +9,9 @@ ghost use Rattle.std.specs.FinMap.Entries.{find, put};
 ghost use Rattle.std.specs.Vec.{vec_len, vec_capacity};
 ghost use Rattle.cell_core.specs.KeyedAbove.{IsAboveAll};
 ghost use Rattle.cell_core.specs.Keyed.{IsMap};
-ghost use Rattle.cell_core.specs.KeyedPlaces.{IsPlace, IsGap};
-ghost use Rattle.cell_core.specs.Chunks.{all_of, entries_of, AllFilled, IsChunked, IsChunkFor};
-ghost use Rattle.cell_core.specs.Chunks.{IsKept, IsPlaceIn};
+ghost use Rattle.cell_core.specs.inner.KeyedPlaces.{IsPlace, IsGap};
+ghost use Rattle.cell_core.specs.Chunks.{all_of, entries_of, AllFilled, IsChunked, IsKept};
+ghost use Rattle.cell_core.specs.inner.Chunks.{IsChunkFor, IsPlaceIn};
 
 use crate::join::Join;
 use crate::key::{Key, Query};

@@ -77,7 +77,8 @@ impl<V: PartialEq> PartialEq for Entry<V> {
     ghost use Rattle.std.specs.Cmp as laws_of;
     ghost use Rattle.std.specs.Cmp.{and_per, on_per, eq_by_cmp_equiv};
     ghost use Rattle.std.specs.Ordering.{eq_by_cmp, eq_of_both, on};
-    ghost use Rattle.cell_core.specs.Entry.{key_cmp, key_cmp_total};
+    ghost use Rattle.cell_core.specs.Entry.{key_cmp};
+    ghost use Rattle.cell_core.specs.inner.Entry.{key_cmp_total};
 
     ghost eq = { eq_of_both (on (λ e. e.0) (eq_by_cmp key_cmp)) (on (λ e. e.1) V.eq) };
 

@@ -5,7 +5,7 @@ ghost use Rattle.std.specs.FinMap.Entries.{find};
 ghost use Rattle.std.specs.Vec.Iter.{into_iter_items, into_iter_len};
 ghost use Rattle.std.specs.Vec.{vec_len, vec_capacity};
 ghost use Rattle.cell_core.specs.Keyed.{IsMap, AgreeIfBoth, BetweenAtKeys, IsJoinedWith};
-ghost use Rattle.cell_core.specs.InterleaveMissing.{pairs_of, AllGaps, AllFrom, or_other};
+ghost use Rattle.cell_core.specs.inner.InterleaveMissing.{pairs_of, AllGaps, AllFrom, or_other};
 
 use crate::join::Join;
 use crate::key::Key;

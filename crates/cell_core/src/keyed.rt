@@ -10,7 +10,7 @@ ghost use Rattle.cell_core.specs.contracts.keyed.Keyed.{the_row};
 ghost use Rattle.cell_core.specs.KeyedAbove.{IsAboveAll};
 ghost use Rattle.cell_core.specs.KeyedFound.{with_key};
 ghost use Rattle.cell_core.specs.Keyed.{IsMap, AgreeMaps, joined_maps, BetweenMaps};
-ghost use Rattle.cell_core.specs.KeyedLaws.{map_laws};
+ghost use Rattle.cell_core.specs.inner.KeyedLaws.{map_laws};
 
 pub(crate) mod iter;
 

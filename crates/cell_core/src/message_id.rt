@@ -11,7 +11,7 @@ ghost use Rattle.std.specs.String.{string_bytes};
 ghost use Rattle.std.proofs.lemmas.Map.Lookups.{exact_bytes};
 ghost use Rattle.cell_core.specs.MessageId.{is_id_byte, IsMessageId, IdTakesMemory, id_bytes};
 ghost use Rattle.cell_core.specs.MessageId.{KeepsId};
-ghost use Rattle.cell_core.specs.KeyTextOrder.{texts_tie};
+ghost use Rattle.cell_core.specs.inner.KeyTextOrder.{texts_tie};
 
 use crate::fault::CellFault;
 use crate::key::Key;

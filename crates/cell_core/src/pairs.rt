@@ -4,8 +4,8 @@
 ghost use Rattle.std.specs.Prelude.{◌≡◌, ◌≤◌, ◌↔◌, ◌∷◌, ◌++◌, [], IfOk, IfErr, OnOk, OnErr, IsTrue};
 ghost use Rattle.std.specs.FinMap.Entries.{find};
 ghost use Rattle.cell_core.specs.Keyed.{IsMap, AgreeIfBoth, BetweenAtKeys};
-ghost use Rattle.cell_core.specs.KeyedPlaces.{place_of, IsPlace, IsGap};
-ghost use Rattle.cell_core.specs.InterleaveMissing.{IsCommonJoined};
+ghost use Rattle.cell_core.specs.inner.KeyedPlaces.{place_of, IsPlace, IsGap};
+ghost use Rattle.cell_core.specs.inner.InterleaveMissing.{IsCommonJoined};
 
 use crate::join::Join;
 use crate::key::Key;

@@ -7,7 +7,7 @@ ghost use Rattle.std.specs.Cmp as laws_of;
 ghost use Rattle.std.specs.Cmp.Lexicographic.{slice_cmp, pointwise, nat_list_cmp_total};
 ghost use Rattle.std.specs.Cmp.Lexicographic.{nat_list_eq_equiv, texts_po};
 ghost use Rattle.cell_core.specs.SiteName.{is_site_byte, IsSiteName, padded_name};
-ghost use Rattle.cell_core.specs.KeyTextOrder.{texts_tie};
+ghost use Rattle.cell_core.specs.inner.KeyTextOrder.{texts_tie};
 
 use crate::fault::CellFault;
 use crate::zero_padded::{before_zeros, zero_padded};

@@ -3,7 +3,8 @@
 ghost use Rattle.std.specs.Prelude.{◌≡◌, ◌∷◌, ◌++◌, Some, MatchResult, OnOk, OnErr, IsOk, IfOk};
 ghost use Rattle.std.specs.Fmt.{decimal};
 ghost use Rattle.cell_core.specs.Stamp.{IsNext, NoNext};
-ghost use Rattle.cell_core.specs.Cell.{AgreeStamps, joined_stamps, stamp_laws};
+ghost use Rattle.cell_core.specs.Cell.{AgreeStamps, joined_stamps};
+ghost use Rattle.cell_core.specs.inner.Cell.{stamp_laws};
 ghost use Rattle.cell_core.specs.StampLater.{IsEitherOf};
 
 use crate::fault::CellFault;

@@ -5,7 +5,8 @@ use Rattle.std.specs.Prelude.{IsUtf8}
 use Rattle.std_io.specs.declared.io.kind.ErrorKind.{ErrorKind}
 use Rattle.std.proofs.lemmas.List.{map-append, take_more, take-append-drop}
 use Rattle.std.proofs.Math.Seq.{drop-cons}
-use Rattle.command_c.specs.Words.{AreUtf8, LacksText, LacksTexts}
+use Rattle.command_c.specs.Words.{AreUtf8, LacksTexts}
+use Rattle.command_c.specs.inner.Words.{LacksText}
 
 AreUtf8-snoc : (words : List (List ℕ)) (word : List ℕ) → AreUtf8 words → IsUtf8 word
     → AreUtf8 (words ++ word ∷ [])

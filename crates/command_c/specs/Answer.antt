@@ -8,13 +8,6 @@ use Rattle.command_core.specs.Program.{RunsBy}
 use Rattle.command_core.specs.OutputStreams.{Reader, streams}
 use Rattle.command_c.specs.Memory.{absent, given, keeps}
 use Rattle.command_c.specs.Words.{AreUtf8, LacksTexts}
-use Rattle.command_c.specs.declared.answer.Reading.{Reading}
-use Rattle.command_c.specs.declared.answer.Reading.TheVariants.{Read, Unread}
-
--- whether the input is read
-abbrev pub is_read : Reading → Bool
-is_read Unread = false
-is_read Read = true
 
 -- what the command leaves: its status, what it wrote to its output, and what it reported
 pub record Ended : Type 0 where

@@ -2,3 +2,4 @@ pub mod Answer
 pub mod Memory
 pub mod Report
 pub mod Words
+pub mod inner

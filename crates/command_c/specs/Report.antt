@@ -3,16 +3,7 @@ use Rattle.std.specs.Prelude.{◌≡◌, ◌≤◌, ◌<◌, ◌++◌, ◌⊎◌
 use Rattle.std.specs.Prelude.{drop}
 use Rattle.clap.specs.Words.{Text}
 use Rattle.command_c.specs.Answer.{Ended, Answers}
-use Rattle.command_c.specs.declared.report.Texts.{Texts}
 use Rattle.command_c.specs.declared.report.CommandTold.{CommandTold}
-
--- the status and the two texts
-abbrev pub texts_now : Texts → Ended
-texts_now texts = record {
-  status = texts.status;
-  output = texts.output.now;
-  errors = texts.errors.now;
-}
 
 -- the text is at the front of the buffer, and the rest of it is as it was; or there is no room,
 -- and all of it is

@@ -8,10 +8,6 @@ abbrev pub AreUtf8 : List (List ℕ) → Type 0
 AreUtf8 [] = Unit {0}
 AreUtf8 (word ∷ words) = IsUtf8 word × AreUtf8 words
 
--- why there is no text of an argument: it is none, or memory ended
-abbrev pub LacksText : List ℕ → ErrorKind → Type 0
-LacksText word kind = ((kind ≡ InvalidData) × (¬ IsUtf8 word)) ⊎ (kind ≡ OutOfMemory)
-
 -- why there are no texts of these arguments: one is none, or memory ended
 abbrev pub LacksTexts : List (List ℕ) → ErrorKind → Type 0
 LacksTexts words kind = ((kind ≡ InvalidData) × (¬ AreUtf8 words)) ⊎ (kind ≡ OutOfMemory)

@@ -3,7 +3,7 @@ ghost use Rattle.std.specs.Prelude.{◌≡◌, false, map, string_bytes, unwrap_
 ghost use Rattle.std_io.specs.IoError.{error_kind};
 ghost use Rattle.command_core.specs.OutputStreams.{reads};
 ghost use Rattle.command_c.specs.Answer.{Answers, AnswersTexts, IsRefused, Runs, out_of_memory};
-ghost use Rattle.command_c.specs.Answer.{is_read};
+ghost use Rattle.command_c.specs.inner.Answer.{is_read};
 ghost use Rattle.command_c.specs.Memory.{took};
 
 use crate::memory::{Absent, Given, Kept};

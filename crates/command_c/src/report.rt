@@ -1,7 +1,9 @@
 //! What the command answers, reported to C.
 ghost use Rattle.std.specs.Prelude.{◌≡◌, ◌≤◌, ◌++◌, length, drop, unwrap_or};
-ghost use Rattle.command_c.specs.Answer.{out_of_memory, is_read};
-ghost use Rattle.command_c.specs.Report.{IsWrittenTo, Reports, read_number, texts_now};
+ghost use Rattle.command_c.specs.Answer.{out_of_memory};
+ghost use Rattle.command_c.specs.inner.Answer.{is_read};
+ghost use Rattle.command_c.specs.Report.{IsWrittenTo, Reports, read_number};
+ghost use Rattle.command_c.specs.inner.Report.{texts_now};
 
 use crate::answer::{Answer, Ended, Reading};
 use command_core::status;

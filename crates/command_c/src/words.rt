@@ -1,7 +1,8 @@
 //! The arguments of the command, as C passes them.
 ghost use Rattle.std.specs.Prelude.{◌≡◌, map, string_bytes, IsUtf8, MatchResult};
 ghost use Rattle.std_io.specs.IoError.{error_kind};
-ghost use Rattle.command_c.specs.Words.{AreUtf8, LacksText, LacksTexts};
+ghost use Rattle.command_c.specs.Words.{AreUtf8, LacksTexts};
+ghost use Rattle.command_c.specs.inner.Words.{LacksText};
 
 use std::alloc::Global;
 use std::io;

@@ -6,9 +6,9 @@ use Rattle.clap.specs.Words.{with_rule, with_subcommand}
 use Rattle.clap.specs.declared.builder.arg.Arg.{Arg}
 use Rattle.clap.specs.declared.builder.command.Command.{Command}
 use Rattle.clap.proofs.OnLiterals.{clap_on_literals}
-use Rattle.command_core.specs.ArgumentsWords.{IsArgument, IsCommand, Joins, ErrorNames, Schemes}
-use Rattle.command_core.specs.ArgumentsWords.{lexicat_app}
-use Rattle.command_core.specs.ArgumentsWords.{preferences_app, under as sub}
+use Rattle.command_core.specs.ArgumentsWords.{ErrorNames, Schemes, lexicat_app, preferences_app}
+use Rattle.command_core.specs.ArgumentsWords.{under as sub}
+use Rattle.command_core.specs.inner.ArgumentsWords.{IsArgument, IsCommand, Joins}
 
 -- The program's command line is one of which clap states the matches.
 pub lexicat_simple : (schemes : Schemes) (names : ErrorNames)

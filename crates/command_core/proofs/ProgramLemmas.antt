@@ -8,7 +8,8 @@ use Rattle.clap.specs.declared.error.Error.{Error}
 use Rattle.clap.specs.declared.error.kind.ErrorKind.TheVariants.{OutOfMemory}
 use Rattle.clap.specs.declared.parser.matches.ArgMatches.{ArgMatches}
 use Rattle.command_core.specs.OutputEndings.{EndsForMemory}
-use Rattle.command_core.specs.Program.{Does, MatchesBy, ReportsBy, error_names}
+use Rattle.command_core.specs.Program.{Does, error_names}
+use Rattle.command_core.specs.inner.Program.{MatchesBy, ReportsBy}
 use Rattle.command_core.specs.OutputStreams.{IsUnread, Streams}
 use Rattle.command_core.specs.ArgumentsWords.{ErrorNames, Schemes, lexicat_app}
 

@@ -15,7 +15,7 @@ use Rattle.std.specs.FinMap.Entries.{find}
 use Rattle.std.specs.Ordering.{ordering_reverse}
 use Rattle.std.specs.declared.cmp.Ordering.{Ordering}
 use Rattle.std.specs.declared.cmp.Ordering.TheVariants.{Equal, Greater, Less}
-use Rattle.cell_core.specs.Cell.{stamp_cmp_exact, stamp_cmp_total}
+use Rattle.cell_core.specs.inner.Cell.{stamp_cmp_exact, stamp_cmp_total}
 use Rattle.cell_core.specs.Entry.{EntryKey, key_cmp}
 use Rattle.cell_core.specs.Stamp.{stamp_cmp}
 use Rattle.cell_core.specs.declared.cell.Cell.{Cell}

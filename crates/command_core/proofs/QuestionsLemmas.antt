@@ -7,7 +7,7 @@ use Rattle.site_docs.specs.Reading.{ReadsAsSite}
 use Rattle.front_core.specs.Ask.{RefusesDocument}
 use Rattle.front_core.specs.declared.answer.Answer.{Answer}
 use Rattle.front_core.specs.declared.fault.FrontFault.{FrontFault}
-use Rattle.command_core.specs.TaskActs.{Asks}
+use Rattle.command_core.specs.inner.TaskActs.{Asks}
 use Rattle.command_core.specs.OutputStreams.{Reader}
 
 module _ {Q : Type 0} (question : Result Q FrontFault) (Reads : Q → Type 0)

@@ -11,7 +11,8 @@ use Rattle.json_docs.specs.declared.fault.DocCause.TheVariants.{WriteFault}
 use Rattle.json_docs.specs.declared.fault.DocFault.{DocFault}
 use Rattle.row_docs.specs.Reading.{no_memory}
 use Rattle.docs_core.specs.Replaying.{RefusesReplay, Replays}
-use Rattle.command_core.specs.TaskActs.{Performs, Treats}
+use Rattle.command_core.specs.TaskActs.{Treats}
+use Rattle.command_core.specs.inner.TaskActs.{Performs}
 use Rattle.command_core.specs.OutputEndings.{EndsRefused, Writes}
 use Rattle.command_core.specs.FaultLine.{PrintsRefusal}
 use Rattle.command_core.specs.Status.{answer_status, status_of}

@@ -1,27 +1,9 @@
 -- The command line: what a parse reads of the command and of its subcommands.
-use Rattle.std.specs.Prelude.{◌≡◌, ℕ, List, Result, Some, false, true, codes, MatchResult}
+use Rattle.std.specs.Prelude.{ℕ, List, Some, true, codes}
 use Rattle.std.specs.Borrow.{Bor}
-use Rattle.clap.specs.Words.{AddsSubcommand, App, Rule, Text, app_of, new_app, new_rule, rule_of}
-use Rattle.clap.specs.Words.{with_rule, with_subcommand}
-use Rattle.clap.specs.declared.builder.arg.Arg.{Arg}
-use Rattle.clap.specs.declared.builder.command.Command.{Command}
-use Rattle.clap.specs.declared.builder.command.Command.TheViews.{out-Command}
+use Rattle.clap.specs.Words.{App, Rule, Text, new_app, new_rule, with_rule, with_subcommand}
 use Rattle.clap.specs.declared.builder.action.ArgAction.TheVariants.{Append, SetTrue}
 use Rattle.clap.specs.declared.builder.value_parser.ValueParser.TheVariants.{Names, Unsigned}
-
--- an argument of one command alone, with this rule
-abbrev pub IsArgument : Rule → Arg → Type 0
-IsArgument rule arg = (rule_of arg ≡ rule) × (arg.global ≡ false)
-
--- a command with these arguments, and none that its subcommands share
-abbrev pub IsCommand : App → Command → Type 0
-IsCommand app command = (app_of command ≡ app) × ((out-Command command).has_globals ≡ false)
-
--- the program and the command are there, and this is that program with that command under it
-abbrev pub Joins : {E : Type 0} → Result Command E → Result Command E → Command → Type 0
-Joins program command joined =
-    MatchResult program
-    (λ old. MatchResult command (λ under. AddsSubcommand old under joined) (λ _. ⊥)) (λ _. ⊥)
 
 -- the words that a scheme may be, where they lie in memory
 abbrev pub Schemes : Type 0

@@ -13,5 +13,5 @@ pub mod TaskEditWords
 pub mod TaskFieldWords
 pub mod TaskQuestionWords
 pub mod TaskReading
-pub mod TaskValues
 pub mod TaskWords
+pub mod inner

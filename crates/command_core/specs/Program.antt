@@ -1,13 +1,10 @@
 -- What the program does with its words (project rules).
-use Rattle.std.specs.Prelude.{◌≡◌, ◌≢◌, ◌⊎◌, ◌++◌, ℕ, Bool, true, false, List, [], ◌∷◌, Option}
-use Rattle.std.specs.Prelude.{codes, map, IfOk, MatchBool, Result}
-use Rattle.clap.specs.Words.{App, Row, Text, fault_of, subcommand_of, subcommand_rows_of, FailsBy}
+use Rattle.std.specs.Prelude.{◌≡◌, ◌⊎◌, ◌++◌, ℕ, Bool, true, false, List, [], ◌∷◌, Option, codes}
+use Rattle.std.specs.Prelude.{map, MatchBool}
+use Rattle.clap.specs.Words.{App, Row, Text, fault_of, subcommand_of}
 use Rattle.clap.specs.Kinds.{Kinds, IsAmong}
-use Rattle.clap.specs.declared.error.Error.{Error}
 use Rattle.clap.specs.declared.error.kind.ErrorKind.{ErrorKind}
 use Rattle.clap.specs.declared.error.kind.ErrorKind.TheVariants.{DisplayHelp, DisplayVersion}
-use Rattle.clap.specs.declared.error.kind.ErrorKind.TheVariants.{OutOfMemory}
-use Rattle.clap.specs.declared.parser.matches.ArgMatches.{ArgMatches}
 use Rattle.json_docs.specs.Sinks.{AppendsFront}
 use Rattle.front_core.specs.Refusal.{refusals}
 use Rattle.command_core.specs.TaskActs.{ActsBy}
@@ -42,14 +39,6 @@ pub record IsProgram (app : App) : Type 0 where
   pub name_words : map (λ s. s.now) names.now ≡ error_names
   pub app_is : app ≡ lexicat_app schemes names
 
--- what clap makes of the words: at a command of the program, the matches that it has on them, or a
--- fault of the kinds that it finds in them
-pub record MatchesBy (words : List Text) (result : Result ArgMatches Error) : Type 0 where
-  pub app : App
-  pub app_ok : IsProgram app
-  pub matches : IfOk result (λ m. subcommand_rows_of m ≡ subcommand_of app words)
-  pub fails : FailsBy (fault_of app words) result
-
 -- of help and the version some bytes are written, as far as writes go; of any other fault in the
 -- words some bytes are on the faults' stream, and the output has nothing
 abbrev pub Reports : {W F : Type 0} → ErrorKind → Writer W → Writer F → ℕ → Type 0
@@ -61,11 +50,6 @@ Reports kind writer faults status = MatchBool (is_shown kind)
     ((status ≡ 2) × IsUnwritten writer
     × ((text : List ℕ)
     × AppendsFront (faults.contents faults.old) (faults.contents faults.new) text))
-
--- the same, unless memory runs out
-abbrev pub ReportsBy : {W F : Type 0} → ErrorKind → Writer W → Writer F → ℕ → Type 0
-ReportsBy kind writer faults status =
-    EndsForMemory writer faults status ⊎ ((kind ≢ OutOfMemory) × Reports kind writer faults status)
 
 -- what is done at these words, by the kinds of fault that clap finds in them and by the command
 -- that it meets

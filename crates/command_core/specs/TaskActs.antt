@@ -1,7 +1,6 @@
 -- What each command does (project rules). The answers and refusals of documents are those of the
 -- document calls.
-use Rattle.std.specs.Prelude.{◌≡◌, ◌⊎◌, ◌++◌, ℕ, Bool, List, [], Option, Result}
-use Rattle.std.specs.Prelude.{MatchOption, MatchResult}
+use Rattle.std.specs.Prelude.{◌≡◌, ◌⊎◌, ◌++◌, ℕ, Bool, List, [], Option, MatchOption}
 use Rattle.clap.specs.Words.{Row, Text}
 use Rattle.cata_core.specs.Site.{SiteState}
 use Rattle.cell_core.specs.Fault.{RefusesName}
@@ -126,13 +125,6 @@ abbrev pub RefusesQuestion : {R Q : Type 0} → (Q → Type 0) → (FrontFault �
     → FrontFault → Type 0
 RefusesQuestion Reads Refuses = RefusesInput (HasQuestion Reads) Refuses RefusesOnly
 
--- either of both
-abbrev pub Asks : {R Q : Type 0} → (Q → Type 0) → (FrontFault → Type 0)
-    → (Q → SiteState → Answer → Type 0) → Reader R → Result Answer FrontFault → Type 0
-Asks Reads Refuses Is reader answered = MatchResult answered
-    (λ answer. AnswersQuestion Reads Is reader answer.text (answer_status answer.outcome))
-    (RefusesQuestion Reads Refuses reader)
-
 -- ---- `changes`
 
 -- the lines of what changed from the first site of the input to the second
@@ -227,12 +219,6 @@ Refuses (task.Sync checks) reader refused =
 Refuses task.Replay reader refused =
     RefusesInput NoWords RefusesNothing RefusesReplay reader refused
 Refuses (task.Explain number) reader refused = IsUnread reader × RefusesNever refused
-
--- it is answered by a text and the status of its outcome, or refused
-abbrev pub Performs : {R : Type 0} → TaskWords → Reader R → Result Answer FrontFault → Type 0
-Performs asked reader answered = MatchResult answered
-    (λ answer. Answers asked reader answer.text (answer_status answer.outcome))
-    (Refuses asked reader)
 
 -- it is answered and the answer written, or its refusal is reported, and nothing is written
 abbrev pub Treats : {R W F : Type 0} → TaskWords → Streams R W F → ℕ → Type 0

@@ -2,16 +2,13 @@
 ghost use Rattle.std.specs.Prelude.{◌≡◌, false, codes, IfOk};
 ghost use Rattle.clap.specs.Words.{app_of, new_app};
 ghost use Rattle.clap.specs.declared.builder.command.Command.TheViews.{out-Command};
-ghost use Rattle.command_core.specs.ArgumentsWords.{IsArgument, IsCommand, Joins, default_rule};
-ghost use Rattle.command_core.specs.ArgumentsWords.{checks_app, edit_app};
-ghost use Rattle.command_core.specs.ArgumentsWords.{fallbacks_rule, field_rule, flag_rule};
-ghost use Rattle.command_core.specs.ArgumentsWords.{id_rule, lang_rule};
-ghost use Rattle.command_core.specs.ArgumentsWords.{error_rule, not_after_rule, now_rule};
-ghost use Rattle.command_core.specs.ArgumentsWords.{preferences_app};
-ghost use Rattle.command_core.specs.ArgumentsWords.{offer_rule, required_rule, scheme_rule};
-ghost use Rattle.command_core.specs.ArgumentsWords.{site_rule};
-ghost use Rattle.command_core.specs.ArgumentsWords.{source_rule};
-ghost use Rattle.command_core.specs.ArgumentsWords.{words_rule};
+ghost use Rattle.command_core.specs.ArgumentsWords.{default_rule, checks_app, edit_app};
+ghost use Rattle.command_core.specs.ArgumentsWords.{fallbacks_rule, field_rule, flag_rule, id_rule};
+ghost use Rattle.command_core.specs.ArgumentsWords.{lang_rule, error_rule, not_after_rule};
+ghost use Rattle.command_core.specs.ArgumentsWords.{now_rule, preferences_app, offer_rule};
+ghost use Rattle.command_core.specs.ArgumentsWords.{required_rule, scheme_rule, site_rule};
+ghost use Rattle.command_core.specs.ArgumentsWords.{source_rule, words_rule};
+ghost use Rattle.command_core.specs.inner.ArgumentsWords.{IsArgument, IsCommand, Joins};
 
 use clap::{Arg, ArgAction, Command, value_parser};
 use std::alloc::{AllocError, Global};

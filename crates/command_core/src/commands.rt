@@ -1,15 +1,13 @@
 //! The commands, in the order in which the help shows them.
 ghost use Rattle.std.specs.Prelude.{◌≡◌, IfOk};
 ghost use Rattle.clap.specs.Words.{app_of};
-ghost use Rattle.command_core.specs.ArgumentsWords.{IsCommand, bundle_app, delete_app};
-ghost use Rattle.command_core.specs.ArgumentsWords.{exchange_app};
+ghost use Rattle.command_core.specs.ArgumentsWords.{bundle_app, delete_app, exchange_app};
 ghost use Rattle.command_core.specs.ArgumentsWords.{explain_app, filter_app, import_app};
-ghost use Rattle.command_core.specs.ArgumentsWords.{labels_app};
-ghost use Rattle.command_core.specs.ArgumentsWords.{lookup_app, merge_app, missing_app};
-ghost use Rattle.command_core.specs.ArgumentsWords.{new_site_app};
-ghost use Rattle.command_core.specs.ArgumentsWords.{outdated_app, pick_app, put_app, questions_app};
-ghost use Rattle.command_core.specs.ArgumentsWords.{sites_app, summary_app, sync_app, take_app};
-ghost use Rattle.command_core.specs.ArgumentsWords.{update_app};
+ghost use Rattle.command_core.specs.ArgumentsWords.{labels_app, lookup_app, merge_app, missing_app};
+ghost use Rattle.command_core.specs.ArgumentsWords.{new_site_app, outdated_app, pick_app, put_app};
+ghost use Rattle.command_core.specs.ArgumentsWords.{questions_app, sites_app, summary_app};
+ghost use Rattle.command_core.specs.ArgumentsWords.{sync_app, take_app, update_app};
+ghost use Rattle.command_core.specs.inner.ArgumentsWords.{IsCommand};
 
 use crate::arguments::{self, described, reading, with_command};
 use clap::Command;

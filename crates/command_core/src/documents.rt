@@ -3,7 +3,7 @@
 ghost use Rattle.std.specs.Prelude.{◌≡◌, false, MatchResult};
 ghost use Rattle.json_docs.specs.FaultChecks.{OrMemory};
 ghost use Rattle.row_docs.specs.Reading.{no_memory};
-ghost use Rattle.command_core.specs.TaskActs.{Performs};
+ghost use Rattle.command_core.specs.inner.TaskActs.{Performs};
 ghost use Rattle.command_core.specs.Documents.{AreChangesOf, IsDocument, RefusesChanges};
 ghost use Rattle.command_core.specs.Documents.{RefusesDocuments};
 ghost use Rattle.command_core.specs.OutputStreams.{reads};

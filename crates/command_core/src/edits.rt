@@ -1,9 +1,10 @@
 //! The commands `put` and `delete`.
 ghost use Rattle.std.specs.Prelude.{◌≡◌, false, MatchResult};
-ghost use Rattle.command_core.specs.TaskActs.{IsChangeOf, Performs, RefusesChangeOf};
+ghost use Rattle.command_core.specs.TaskActs.{IsChangeOf, RefusesChangeOf};
+ghost use Rattle.command_core.specs.inner.TaskActs.{Performs};
 ghost use Rattle.command_core.specs.OutputStreams.{reads};
 ghost use Rattle.command_core.specs.TaskWords.{Edit};
-ghost use Rattle.command_core.specs.TaskValues.{edit_values};
+ghost use Rattle.command_core.specs.inner.TaskValues.{edit_values};
 
 use crate::output::Answered;
 use docs_core::{Source, read_all};

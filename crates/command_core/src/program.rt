@@ -3,7 +3,8 @@ ghost use Rattle.std.specs.Prelude.{◌≡◌, false, codes, map, string_bytes, 
 ghost use Rattle.clap.specs.Words.{app_of, kind_of, fault_of, subcommand_of, subcommand_rows_of};
 ghost use Rattle.clap.specs.Words.{FailsBy};
 ghost use Rattle.command_core.specs.ProgramHelp.{words_meant};
-ghost use Rattle.command_core.specs.Program.{MatchesBy, RunsBy, ReportsBy};
+ghost use Rattle.command_core.specs.Program.{RunsBy};
+ghost use Rattle.command_core.specs.inner.Program.{MatchesBy, ReportsBy};
 ghost use Rattle.command_core.specs.OutputStreams.{reads, streams, writes};
 ghost use Rattle.command_core.specs.ArgumentsWords.{bare_app, lexicat_app};
 

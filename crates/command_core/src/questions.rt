@@ -1,6 +1,6 @@
 //! The commands that question the site of the input.
 ghost use Rattle.std.specs.Prelude.{◌≡◌, Err, Ok, false};
-ghost use Rattle.command_core.specs.TaskActs.{Asks};
+ghost use Rattle.command_core.specs.inner.TaskActs.{Asks};
 ghost use Rattle.command_core.specs.OutputStreams.{reads};
 
 use crate::output::Answered;

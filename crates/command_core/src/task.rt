@@ -11,7 +11,8 @@ ghost use Rattle.command_core.specs.OutputStreams.{reads, streams, writes};
 ghost use Rattle.command_core.specs.TaskWords.{Edit, GivesNumber, GivesNumbers, GivesTask};
 ghost use Rattle.command_core.specs.TaskWords.{Replay, checks_words, own_edits_of, pick_task};
 ghost use Rattle.command_core.specs.TaskWords.{shows_of};
-ghost use Rattle.command_core.specs.TaskValues.{preference_values, reader_values, task_values};
+ghost use Rattle.command_core.specs.inner.TaskValues.{preference_values, reader_values};
+ghost use Rattle.command_core.specs.inner.TaskValues.{task_values};
 
 use crate::documents::DocumentTask;
 use crate::edits::EditValues;

@@ -10,7 +10,7 @@ use Rattle.std.specs.Prelude.{◌≢◌, ◌⊎◌, Bool, Option}
 use Rattle.std.specs.declared.cmp.Ordering.{Ordering}
 use Rattle.std.specs.declared.cmp.Ordering.TheVariants.{Equal, Greater, Less}
 use Rattle.std.specs.Ordering.{ordering_reverse}
-use Rattle.cell_core.specs.Cell.{stamp_cmp_exact, stamp_cmp_total}
+use Rattle.cell_core.specs.inner.Cell.{stamp_cmp_exact, stamp_cmp_total}
 use Rattle.cell_core.specs.Keyed.{IsMap}
 use Rattle.cell_core.specs.Stamp.{IsNext, stamp_cmp}
 use Rattle.cell_core.specs.declared.stamp.Stamp.{Stamp}

@@ -8,11 +8,12 @@ use Rattle.std.specs.FinMap.Entries.{below_all, by_order, is_sorted, put}
 use Rattle.std.specs.Ordering.{is_gt, is_lt, ordering_reverse}
 use Rattle.cell_core.specs.Keyed.{IsMap}
 use Rattle.cell_core.specs.declared.cell.Cell.{Cell}
-use Rattle.cell_core.specs.Entry.{EntryKey, key_cmp, key_cmp_exact}
+use Rattle.cell_core.specs.Entry.{EntryKey, key_cmp}
+use Rattle.cell_core.specs.inner.Entry.{key_cmp_exact}
 use Rattle.catalogue.specs.Entries.{Entries, Entry, IsAboveAll}
-use Rattle.cell_core.specs.Entry.{key_cmp_total}
+use Rattle.cell_core.specs.inner.Entry.{key_cmp_total}
 use Rattle.catalogue.proofs.CatalogueFlatLemmas.{all_first, all_rest}
-use Rattle.docs_core.specs.EditedRows.{after_key, before_key}
+use Rattle.docs_core.specs.inner.EditedRows.{after_key, before_key}
 use Rattle.cell_core.proofs.Basics.{is_greater as greater, second_part}
 use Rattle.docs_core.proofs.JoinedRowsLemmas.{AreAfter, after_first}
 use Rattle.summary_docs.proofs.LackedRowsLemmas.{above_one}

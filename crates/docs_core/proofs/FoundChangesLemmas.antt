@@ -16,12 +16,12 @@ use Rattle.cell_core.specs.Keyed.{IsMap}
 use Rattle.cell_core.specs.declared.cell.Cell.{Cell}
 use Rattle.cell_core.specs.Entry.{EntryKey, key_cmp}
 use Rattle.catalogue.specs.Entries.{Entries, Entry, IsAboveAll}
-use Rattle.cell_core.specs.Entry.{key_cmp_exact, key_cmp_total}
+use Rattle.cell_core.specs.inner.Entry.{key_cmp_exact, key_cmp_total}
 use Rattle.map_docs.specs.Maps.{Labelled}
 use Rattle.query_docs.specs.Exporting.{label_at}
-use Rattle.docs_core.specs.FoundChanges.{HasLabel, IsFound, IsNoted}
+use Rattle.docs_core.specs.inner.FoundChanges.{HasLabel, IsFound, IsNoted}
 use Rattle.docs_core.specs.UpdatingChanges.{Change}
-use Rattle.docs_core.specs.Revised.{IsFirstRevised, key_of, new_of, old_of}
+use Rattle.docs_core.specs.inner.Revised.{IsFirstRevised, key_of, new_of, old_of}
 use Rattle.docs_core.specs.Updating.{AreChanges, Texts}
 use Rattle.docs_core.specs.declared.call.revised.Revised.{Revised}
 use Rattle.catalogue.proofs.CatalogueBestLemmas.{own_key as itself, same_key as one_key}

@@ -3,8 +3,9 @@ use Rattle.std.proofs.Common.{◌≡◌, ◌∙◌, ℕ, List, [], ap, refl}
 use Rattle.std.specs.Prelude.{None, Some, option_map}
 use Rattle.std.specs.FinMap.Entries.{find}
 use Rattle.cell_core.specs.Keyed.{IsMap}
-use Rattle.cell_core.specs.KeyedLaws.{same_maps}
-use Rattle.cell_core.specs.Entry.{EntryKey, key_cmp, key_cmp_exact, key_cmp_total}
+use Rattle.cell_core.specs.inner.KeyedLaws.{same_maps}
+use Rattle.cell_core.specs.Entry.{EntryKey, key_cmp}
+use Rattle.cell_core.specs.inner.Entry.{key_cmp_exact, key_cmp_total}
 use Rattle.catalogue.specs.Entries.{Entries}
 use Rattle.catalogue.proofs.ChangesMappedLemmas.{find-mapped, mapped-IsMap}
 use Rattle.map_docs.specs.Maps.{Labelled}

@@ -14,24 +14,25 @@ use Rattle.std.specs.declared.cmp.Ordering.{Ordering}
 use Rattle.std.specs.declared.cmp.Ordering.TheVariants.{Less, Equal, Greater}
 use Rattle.std.specs.FinMap.Entries.{below_all, by_order, find, is_sorted, put}
 use Rattle.std.specs.Ordering.{eq_by_cmp, is_eq, is_lt, ordering_reverse}
-use Rattle.cell_core.specs.Cell.{AgreeCells, joined_cells, stamp_cmp_total}
+use Rattle.cell_core.specs.Cell.{AgreeCells, joined_cells}
+use Rattle.cell_core.specs.inner.Cell.{stamp_cmp_total}
 use Rattle.cell_core.specs.Stamp.{stamp_cmp}
 use Rattle.cell_core.specs.Keyed.{AgreeIfBoth, IsMap, joined_at, joined_entries}
-use Rattle.cell_core.specs.KeyedLaws.{joined_entries-IsMap, joined_of_maps}
+use Rattle.cell_core.specs.inner.KeyedLaws.{joined_entries-IsMap, joined_of_maps}
 use Rattle.cell_core.specs.declared.stamp.Stamp.{Stamp}
 use Rattle.cell_core.specs.declared.cell.Cell.{Cell}
 use Rattle.catalogue.specs.Clash.{IsFirstClash}
 use Rattle.cell_core.specs.Entry.{EntryKey, key_cmp}
 use Rattle.catalogue.specs.Entries.{Agree, Entries, Entry, IsAboveAll, joined}
-use Rattle.cell_core.specs.Entry.{key_cmp_exact, key_cmp_total}
+use Rattle.cell_core.specs.inner.Entry.{key_cmp_exact, key_cmp_total}
 use Rattle.catalogue.proofs.Basics.{some_same}
 use Rattle.catalogue.proofs.CatalogueAboveLemmas.{IsMap-behind, front_below, put_behind}
 use Rattle.catalogue.proofs.CatalogueBestLemmas.{own_key}
 use Rattle.catalogue.proofs.ClashLemmas.{found_at}
 use Rattle.catalogue.proofs.CatalogueFlatLemmas.{all_first, all_rest}
 use Rattle.catalogue.proofs.EditStampOrderLemmas.{not_less_self}
-use Rattle.docs_core.specs.JoinedRows.{AreJoined, IsFirstGreater, IsJoinedTo, IsJoining}
-use Rattle.docs_core.specs.JoinedRows.{IsJoiningAs, IsJoiningBefore}
+use Rattle.docs_core.specs.inner.JoinedRows.{AreJoined, IsFirstGreater, IsJoinedTo, IsJoining}
+use Rattle.docs_core.specs.inner.JoinedRows.{IsJoiningAs, IsJoiningBefore}
 use Rattle.site_docs.specs.RowsDraft.{HoldsRows}
 use Rattle.site_docs.specs.declared.rows_draft.RowsDraft.{RowsDraft}
 use Rattle.catalogue.proofs.CatalogueApplyLemmas.{with_none as agree_none}

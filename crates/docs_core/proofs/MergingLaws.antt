@@ -15,18 +15,20 @@ use Rattle.std.specs.declared.cmp.Ordering.{Ordering}
 use Rattle.std.specs.declared.cmp.Ordering.TheVariants.{Equal, Greater, Less}
 use Rattle.std.specs.Cmp.{tied_itself}
 use Rattle.std.proofs.lemmas.List.Elements.{All-cons, All-contains, All-head, All-nil, All-tail}
-use Rattle.cell_core.specs.Cell.{AgreeCells, joined_cells, stamp_cmp_total}
+use Rattle.cell_core.specs.Cell.{AgreeCells, joined_cells}
+use Rattle.cell_core.specs.inner.Cell.{stamp_cmp_total}
 use Rattle.cell_core.specs.Join.{IsJoinOf}
 use Rattle.cell_core.specs.Keyed.{AgreeIfBoth, IsMap, joined_if_both}
-use Rattle.cell_core.specs.KeyedLaws.{find-joined_maps}
-use Rattle.cell_core.specs.KeyedLaws.{joined_maps-IsMap, same_maps}
+use Rattle.cell_core.specs.inner.KeyedLaws.{find-joined_maps, joined_maps-IsMap, same_maps}
 use Rattle.cell_core.specs.Stamp.{stamp_cmp}
 use Rattle.cell_core.specs.declared.cell.Cell.{Cell}
 use Rattle.cell_core.specs.declared.stamp.Stamp.{Stamp}
 use Rattle.cell_core.proofs.JoinLemmas.{below_both}
 use Rattle.cell_core.specs.Entry.{EntryKey}
-use Rattle.catalogue.specs.Entries.{Agree, Entries, IsBelowCells, catalogue_laws}
-use Rattle.cell_core.specs.Entry.{key_cmp, key_cmp_exact, key_cmp_total}
+use Rattle.catalogue.specs.Entries.{Agree, Entries, IsBelowCells}
+use Rattle.catalogue.specs.inner.Entries.{catalogue_laws}
+use Rattle.cell_core.specs.Entry.{key_cmp}
+use Rattle.cell_core.specs.inner.Entry.{key_cmp_exact, key_cmp_total}
 use Rattle.catalogue.specs.Entries.{joined}
 use Rattle.catalogue.specs.CatalogueParts.{part_of}
 use Rattle.cata_core.specs.Site.{SiteState}

@@ -18,8 +18,8 @@ use Rattle.site_docs.specs.Reading.{ReadsAsSite, RefusesSite}
 use Rattle.site_docs.specs.Checks.{LacksNoOwn}
 use Rattle.site_docs.specs.declared.checks.Checks.{Checks}
 use Rattle.docs_core.specs.Lines.{AreDocuments, documents_of, lines_of, one_at_least}
-use Rattle.docs_core.specs.Merging.{AreMerged, JoinsOther, RefusesMerge, RefusesOther}
-use Rattle.docs_core.specs.Merging.{joined_all, merged_site}
+use Rattle.docs_core.specs.Merging.{AreMerged, RefusesMerge, RefusesOther, joined_all, merged_site}
+use Rattle.docs_core.specs.inner.Merging.{JoinsOther}
 use Rattle.site_docs.specs.RowsInTime.{AreInTime}
 use Rattle.docs_core.proofs.LinesLemmas.{document_cut, few_lines}
 

@@ -12,8 +12,9 @@ use Rattle.std.specs.FinMap.Entries.{find}
 use Rattle.std.specs.List.{cons_option}
 use Rattle.std.specs.Option.{is_none, option_and_then}
 use Rattle.std.specs.Ordering.{eq_by_cmp}
-use Rattle.cell_core.specs.KeyedLaws.{same_maps}
-use Rattle.cell_core.specs.Entry.{EntryKey, key_cmp, key_cmp_exact, key_cmp_total}
+use Rattle.cell_core.specs.inner.KeyedLaws.{same_maps}
+use Rattle.cell_core.specs.Entry.{EntryKey, key_cmp}
+use Rattle.cell_core.specs.inner.Entry.{key_cmp_exact, key_cmp_total}
 use Rattle.catalogue.specs.Entries.{Entries}
 use Rattle.catalogue.specs.CatalogueParts.{part_of}
 use Rattle.catalogue.proofs.Basics.{some_same}

@@ -11,14 +11,17 @@ use Rattle.std.specs.Prelude.{◌≢◌, ◌⊎◌, ◌↔◌, All, None, Option
 use Rattle.std.specs.FinMap.Entries.{find}
 use Rattle.std.specs.Ordering.{eq_by_cmp, is_lt}
 use Rattle.std.proofs.lemmas.List.Elements.{All-contains, All-head, All-nil, All-push, All-tail}
-use Rattle.cell_core.specs.Cell.{cell_laws, joined_cells}
+use Rattle.cell_core.specs.Cell.{joined_cells}
+use Rattle.cell_core.specs.inner.Cell.{cell_laws}
 use Rattle.cell_core.specs.Keyed.{joined_if_both}
-use Rattle.cell_core.specs.KeyedLaws.{find-joined_maps}
+use Rattle.cell_core.specs.inner.KeyedLaws.{find-joined_maps}
 use Rattle.cell_core.specs.Stamp.{stamp_cmp}
 use Rattle.cell_core.specs.declared.cell.Cell.{Cell}
 use Rattle.cell_core.specs.Entry.{EntryKey}
-use Rattle.catalogue.specs.Entries.{Agree, Entries, Entry, catalogue_laws, joined}
-use Rattle.cell_core.specs.Entry.{key_cmp, key_cmp_total}
+use Rattle.catalogue.specs.Entries.{Agree, Entries, Entry, joined}
+use Rattle.catalogue.specs.inner.Entries.{catalogue_laws}
+use Rattle.cell_core.specs.Entry.{key_cmp}
+use Rattle.cell_core.specs.inner.Entry.{key_cmp_total}
 use Rattle.cata_core.specs.Site.{SiteState}
 use Rattle.cata_core.specs.declared.delta.Delta.{Delta}
 use Rattle.catalogue.proofs.Basics.{append_nil, some_same}

@@ -14,16 +14,17 @@ use Rattle.std.proofs.lemmas.List.Elements.{All-append, All-cons, All-map, All-n
 use Rattle.std.specs.declared.cmp.Ordering.TheVariants.{Greater, Less}
 use Rattle.std.specs.FinMap.Entries.{below_all, find, find-put, is_sorted, is_sorted-put, put}
 use Rattle.std.specs.Ordering.{eq_by_cmp, ordering_reverse}
-use Rattle.cell_core.specs.Cell.{AgreeCells, joined_cells, stamp_cmp_total}
+use Rattle.cell_core.specs.Cell.{AgreeCells, joined_cells}
+use Rattle.cell_core.specs.inner.Cell.{stamp_cmp_total}
 use Rattle.cell_core.specs.Keyed.{IsMap, joined_if_both}
-use Rattle.cell_core.specs.KeyedLaws.{find-joined_maps, joined_maps-IsMap}
-use Rattle.cell_core.specs.KeyedLaws.{joined_of_maps, same_maps}
+use Rattle.cell_core.specs.inner.KeyedLaws.{find-joined_maps, joined_maps-IsMap, joined_of_maps}
+use Rattle.cell_core.specs.inner.KeyedLaws.{same_maps}
 use Rattle.cell_core.specs.Stamp.{IsAbove, IsNext, stamp_cmp}
 use Rattle.cell_core.specs.declared.cell.Cell.{Cell}
 use Rattle.cell_core.specs.declared.stamp.Stamp.{Stamp}
 use Rattle.cell_core.specs.Entry.{EntryKey, key_cmp}
 use Rattle.catalogue.specs.Entries.{Agree, Entries, Entry, IsAboveAll, joined}
-use Rattle.cell_core.specs.Entry.{key_cmp_exact, key_cmp_total}
+use Rattle.cell_core.specs.inner.Entry.{key_cmp_exact, key_cmp_total}
 use Rattle.catalogue.specs.CatalogueLatest.{latest_of}
 use Rattle.catalogue.proofs.CatalogueAboveLemmas.{front_below}
 use Rattle.cell_core.proofs.KeyedPlacesLemmas.{find-below}
@@ -32,8 +33,8 @@ use Rattle.catalogue.proofs.CatalogueLatestLemmas.{held_less, latest_put}
 use Rattle.map_docs.specs.Maps.{Labelled}
 use Rattle.docs_core.specs.ImportingLabels.{puts_of}
 use Rattle.docs_core.specs.UpdatingChanges.{Change, Makes}
-use Rattle.docs_core.specs.StampedRows.{AreStamped, HoldsStamped}
-use Rattle.docs_core.specs.SyncedRows.{IsSyncedTo, untested}
+use Rattle.docs_core.specs.inner.StampedRows.{AreStamped, HoldsStamped}
+use Rattle.docs_core.specs.inner.SyncedRows.{IsSyncedTo, untested}
 use Rattle.docs_core.specs.declared.call.stamped_rows.StampedRows.{StampedRows}
 use Rattle.cell_core.proofs.Basics.{first_part, second_part, tied_order as tied}
 use Rattle.list_core.proofs.Basics.{element_at as first_left}

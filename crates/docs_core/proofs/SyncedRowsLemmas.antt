@@ -16,7 +16,8 @@ use Rattle.std.specs.FinMap.Entries.{find}
 use Rattle.std.specs.Ordering.{eq_by_cmp, is_eq, is_lt}
 use Rattle.std.specs.declared.cmp.Ordering.{Ordering}
 use Rattle.std.specs.declared.cmp.Ordering.TheVariants.{Equal, Greater, Less}
-use Rattle.cell_core.specs.Cell.{AgreeCells, joined_cells, stamp_cmp_exact}
+use Rattle.cell_core.specs.Cell.{AgreeCells, joined_cells}
+use Rattle.cell_core.specs.inner.Cell.{stamp_cmp_exact}
 use Rattle.cell_core.specs.declared.cell.Cell.{Cell}
 use Rattle.cell_core.specs.declared.stamp.Stamp.{Stamp}
 use Rattle.cell_core.specs.Stamp.{stamp_cmp}
@@ -31,15 +32,16 @@ use Rattle.site_docs.specs.RowsDraft.{HoldsRows}
 use Rattle.site_docs.specs.WrittenRows.{HasRead, current_of}
 use Rattle.site_docs.specs.declared.plain.written_rows.WrittenRows.{WrittenRows}
 use Rattle.site_docs.specs.declared.rows_draft.RowsDraft.{RowsDraft}
-use Rattle.docs_core.specs.JoinedRows.{IsFirstGreater, IsJoiningAll, IsJoiningAs, IsJoiningBefore}
-use Rattle.docs_core.specs.SyncedRows.{AreNames, AreOwnTests, AreTested, IsKept, IsOfAnother}
-use Rattle.docs_core.specs.SyncedRows.{IsSynced, IsSyncedAll}
+use Rattle.docs_core.specs.inner.JoinedRows.{IsFirstGreater, IsJoiningAll, IsJoiningAs}
+use Rattle.docs_core.specs.inner.JoinedRows.{IsJoiningBefore}
+use Rattle.docs_core.specs.inner.SyncedRows.{AreNames, AreOwnTests, AreTested, IsKept, IsOfAnother}
+use Rattle.docs_core.specs.inner.SyncedRows.{IsSynced, IsSyncedAll}
 use Rattle.cata_core.specs.Site.{SiteState}
 use Rattle.site_docs.specs.Checks.{LackNoOwn}
 use Rattle.site_docs.specs.declared.checks.OwnEdits.{OwnEdits}
 use Rattle.site_docs.specs.declared.checks.OwnEdits.TheVariants.{Checked, Unchecked}
-use Rattle.docs_core.specs.SyncedRows.{IsSyncedBefore, IsSyncedTo, LackNone, LackNoneAt, LacksNone}
-use Rattle.docs_core.specs.SyncedRows.{order_to}
+use Rattle.docs_core.specs.inner.SyncedRows.{IsSyncedBefore, IsSyncedTo, LackNone, LackNoneAt}
+use Rattle.docs_core.specs.inner.SyncedRows.{LacksNone, order_to}
 use Rattle.docs_core.specs.declared.call.synced_rows.Tests.{Tests}
 use Rattle.site_docs.specs.RowsInTime.{AreInTime, IsInTime}
 use Rattle.docs_core.proofs.JoinedRowsLemmas.{find_last, joining_agrees, joining_ends}

@@ -22,7 +22,8 @@ use Rattle.cell_core.specs.Stamp.{NoNext}
 use Rattle.cell_core.specs.declared.cell.Cell.{Cell}
 use Rattle.cell_core.specs.declared.stamp.Stamp.{Stamp}
 use Rattle.cell_core.proofs.CellLemmas.{label_decides}
-use Rattle.cell_core.specs.Entry.{EntryKey, key_cmp, key_cmp_exact, key_cmp_total}
+use Rattle.cell_core.specs.Entry.{EntryKey, key_cmp}
+use Rattle.cell_core.specs.inner.Entry.{key_cmp_exact, key_cmp_total}
 use Rattle.catalogue.specs.Entries.{Entries}
 use Rattle.catalogue.specs.CatalogueLatest.{latest_of}
 use Rattle.cell_core.proofs.KeyedPlacesLemmas.{find-below, below-trans}
@@ -30,8 +31,8 @@ use Rattle.map_docs.specs.Maps.{Labelled}
 use Rattle.query_docs.specs.Exporting.{label_at}
 use Rattle.query_docs.proofs.ExportingLemmas.{label_in}
 use Rattle.docs_core.specs.UpdatingChanges.{Change, Makes, SpendsClock, with_change}
-use Rattle.docs_core.specs.Revised.{IsFirstRevised, IsHead, IsRevised, NoStamp, key_of, new_of}
-use Rattle.docs_core.specs.Revised.{old_of}
+use Rattle.docs_core.specs.inner.Revised.{IsFirstRevised, IsHead, IsRevised, NoStamp, key_of}
+use Rattle.docs_core.specs.inner.Revised.{new_of, old_of}
 use Rattle.docs_core.specs.Updating.{AreChanges, IsChangeAt, SpendsUpdate, Texts, Updates}
 use Rattle.docs_core.specs.declared.call.revised.Revised.{Revised}
 use Rattle.catalogue.proofs.CatalogueBestLemmas.{same_key as one_key, own_key as itself}

@@ -10,8 +10,8 @@ use Rattle.row_docs.specs.Reading.{no_memory}
 use Rattle.site_docs.specs.Reading.{ReadsAsSite}
 use Rattle.map_docs.specs.MapsLabels.{AreLangMaps}
 use Rattle.map_docs.specs.Maps.{Labelled}
-use Rattle.docs_core.specs.Updating.{IsUpdated, IsWithUpdates, RefusesUpdate, RefusesUpdates}
-use Rattle.docs_core.specs.Updating.{SpendsUpdate}
+use Rattle.docs_core.specs.Updating.{IsUpdated, RefusesUpdate, SpendsUpdate}
+use Rattle.docs_core.specs.inner.Updating.{IsWithUpdates, RefusesUpdates}
 
 -- why cells are not updated is why the changes of a site are refused
 pub not_updated : (bytes : List ℕ) (now : ℕ) (before after : List Labelled) (site : SiteState)

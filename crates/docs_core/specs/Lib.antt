@@ -1,15 +1,10 @@
 pub mod Calls
-pub mod EditedRows
-pub mod FoundChanges
 pub mod Importing
 pub mod ImportingLabels
-pub mod JoinedRows
 pub mod Lines
 pub mod Merging
 pub mod MigrationSites
 pub mod Replaying
-pub mod Revised
-pub mod StampedRows
-pub mod SyncedRows
 pub mod Updating
 pub mod UpdatingChanges
+pub mod inner

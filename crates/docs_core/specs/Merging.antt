@@ -49,14 +49,6 @@ IsMerged checks input text =
     × AreMerged checks (documents_of input) first others
     × IsSiteText (merged_site first others) text
 
--- the second site is the first one with the cells of this document, which pass the checks and agree
--- with its own
-abbrev pub JoinsOther : Checks → List ℕ → SiteState → SiteState → Type 0
-JoinsOther checks document old new =
-    (other : SiteState) × ReadsAsSite document other × AreInTime checks.not_after other.cells
-    × LacksNoOwn checks.own_edits old other.cells × Agree old.cells other.cells
-    × (new ≡ record { name = old.name; cells = joined old.cells other.cells })
-
 -- the cells are refused for a time, then for an edit that the site made and lacks, then as cells
 -- are
 abbrev pub RefusesCells : Checks → ℕ → SiteState → Entries → DocFault → Type 0

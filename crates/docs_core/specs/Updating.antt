@@ -46,21 +46,6 @@ abbrev pub SpendsUpdate : ℕ → List ℕ → List Labelled → List Labelled �
 SpendsUpdate now name old new cells =
     (changes : List Change) × AreChanges old new cells changes × SpendsClock now name changes cells
 
--- the site of the document with the changes from these labels to those, which reads as that site
-abbrev pub IsWithUpdates : List ℕ → ℕ → List Labelled → List Labelled → List ℕ → Type 0
-IsWithUpdates bytes now before after doc =
-    (site : SiteState) × (cells : Entries) × ReadsAsSite bytes site
-    × Updates now site.name before after site.cells cells
-    × IsSiteText (record { name = site.name; cells = cells }) doc
-
--- the site is refused, then a change for which there is no next stamp
-abbrev pub RefusesUpdates : List ℕ → ℕ → List Labelled → List Labelled → DocFault → Type 0
-RefusesUpdates bytes now before after fault =
-    IsOfDocument 1 (RefusesSite bytes) fault
-    ⊎ ((site : SiteState) × ReadsAsSite bytes site
-    × SpendsUpdate now site.name before after site.cells
-    × (fault ≡ of_no_document (of_site ClockSpent)))
-
 -- the site with the changes from the old language maps to the new ones, which reads as that site
 abbrev pub IsUpdated : List ℕ → ℕ → List ℕ → List ℕ → List ℕ → Type 0
 IsUpdated bytes now old new doc =
@@ -68,13 +53,6 @@ IsUpdated bytes now old new doc =
     × AreLangMaps old before × AreLangMaps new after
     × Updates now site.name before after site.cells cells
     × IsSiteText (record { name = site.name; cells = cells }) doc
-
--- the old language maps are refused as document 2, then the new ones as document 3
-abbrev pub RefusesMaps : List ℕ → List ℕ → DocFault → Type 0
-RefusesMaps old new fault =
-    IsOfDocument 2 (RefusesLangMaps old) fault
-    ⊎ ((before : List Labelled) × AreLangMaps old before
-    × IsOfDocument 3 (RefusesLangMaps new) fault)
 
 -- the site is refused, then the old language maps, then the new ones, then a change for which there
 -- is no next stamp

@@ -15,9 +15,10 @@ use Rattle.front_core.specs.declared.fault.FrontFault.{FrontFault}
 use Rattle.front_core.specs.Preferences.{FieldText}
 use Rattle.front_core.specs.OpenSite.{Edits, OrNoMemory}
 use Rattle.front_core.specs.declared.fault.FrontFault.TheVariants.{NoMemory}
-use Rattle.front_c.specs.Calls.{IsHeld, IsShared, Keeps, Leaving, ReportsHeld, ReportsLine}
-use Rattle.front_c.specs.Calls.{ReportsShared, ReportsAsked, ReportsEdited, ReportsField}
-use Rattle.front_c.specs.Calls.{ReportsOpen, ReportsQuestion, ReportsView}
+use Rattle.front_c.specs.Calls.{IsShared, Keeps, Leaving, ReportsHeld, ReportsLine, ReportsShared}
+use Rattle.front_c.specs.Calls.{ReportsAsked, ReportsEdited, ReportsField, ReportsOpen}
+use Rattle.front_c.specs.Calls.{ReportsQuestion, ReportsView}
+use Rattle.front_c.specs.inner.Calls.{IsHeld}
 use Rattle.front_c.specs.Status.{found}
 use Rattle.front_c.specs.Reporting.{ReportsAnswer, ReportsText, Ends, ReportsDone, ReportsEither}
 use Rattle.front_c.specs.Reporting.{ReportsFault, ReportsLabelText, ReportsRefusal, ReportsSome}

@@ -1,6 +1,5 @@
 -- What each call makes of its handles, its buffer, its record and its status (project rules).
-use Rattle.std.specs.Prelude.{◌≡◌, ◌≢◌, ◌⊎◌, ℕ, ℤ, None, Option, Some, MatchOption, MatchResult}
-use Rattle.std.specs.Prelude.{Result, option_map}
+use Rattle.std.specs.Prelude.{◌≡◌, ◌≢◌, ◌⊎◌, ℕ, ℤ, None, Option, Some, MatchOption, option_map}
 use Rattle.cata_core.specs.Site.{SiteState}
 use Rattle.site_docs.specs.Reading.{ReadsAsSite}
 use Rattle.site_docs.specs.declared.checks.Checks.{Checks}
@@ -183,14 +182,6 @@ ReportsReadFilter rules flags id field =
     (λ read. ReportsRead (IsFilter id offers read) (RefusesFilter id offers read) ReportsAnswer)
 
 -- ---- handles
-
--- the handle has the site that was made; or it is as it was, since none was made or memory ended
-abbrev pub IsHeld : Result SiteState FrontFault → Option SiteState → Option SiteState → Reports
-IsHeld made old new told status =
-    MatchResult made
-    (λ site. ((new ≡ Some site) × ReportsDone told status)
-    ⊎ ((new ≡ old) × ReportsFault NoMemory told status))
-    (λ fault. (new ≡ old) × ReportsFault fault told status)
 
 -- the handle has such a site, or is as it was
 abbrev pub ReportsHeld : (SiteState → Type 0) → (FrontFault → Type 0) → Option SiteState

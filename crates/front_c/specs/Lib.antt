@@ -5,3 +5,4 @@ pub mod Reporting
 pub mod Rules
 pub mod SiteHandleHeld
 pub mod Status
+pub mod inner

@@ -15,16 +15,18 @@ use Rattle.std.specs.Ordering.{eq_by_cmp, is_eq}
 use Rattle.std.specs.Cmp.{tied_itself}
 use Rattle.std.specs.FinMap.Entries.{find, find-put, is_sorted-put}
 use Rattle.cell_core.specs.declared.cell.Cell.{Cell}
-use Rattle.cell_core.specs.Cell.{AgreeCells, cell_laws, joined_cells}
+use Rattle.cell_core.specs.Cell.{AgreeCells, joined_cells}
+use Rattle.cell_core.specs.inner.Cell.{cell_laws}
 use Rattle.cell_core.specs.Keyed.{AgreeIfBoth, IsMap}
-use Rattle.cell_core.specs.KeyedLaws.{also_map, at_of, find-joined_maps}
+use Rattle.cell_core.specs.inner.KeyedLaws.{also_map, at_of, find-joined_maps}
 use Rattle.cell_core.specs.Keyed.{joined_if_both}
-use Rattle.cell_core.specs.KeyedLaws.{joined_maps-IsMap, same_maps}
+use Rattle.cell_core.specs.inner.KeyedLaws.{joined_maps-IsMap, same_maps}
 use Rattle.cata_core.specs.Delta.{IsPart}
 use Rattle.cell_core.specs.Entry.{EntryKey}
 use Rattle.catalogue.specs.Entries.{Agree, Entries, Entry, IsBelowCells, joined}
-use Rattle.cell_core.specs.Entry.{key_cmp, key_cmp_exact, key_cmp_total}
-use Rattle.catalogue.specs.Entries.{catalogue_laws}
+use Rattle.cell_core.specs.Entry.{key_cmp}
+use Rattle.cell_core.specs.inner.Entry.{key_cmp_exact, key_cmp_total}
+use Rattle.catalogue.specs.inner.Entries.{catalogue_laws}
 use Rattle.cata_core.specs.Site.{SiteState}
 use Rattle.catalogue.proofs.CatalogueApplyLemmas.{with_none}
 use Rattle.cata_core.proofs.SiteOwnEditsLemmas.{own_ascends}
@@ -34,7 +36,7 @@ use Rattle.docs_core.specs.UpdatingChanges.{Change as MadeChange, Makes, with_ch
 use Rattle.docs_core.specs.Updating.{Updates}
 use Rattle.docs_core.proofs.ImportingLaws.{import_leaves}
 use Rattle.docs_core.proofs.UpdatingLaws.{keeps_cell}
-use Rattle.front_core.specs.Arrivals.{HasMore, IsKnown, KnowsMore}
+use Rattle.front_core.specs.inner.Arrivals.{HasMore, IsKnown, KnowsMore}
 use Rattle.front_core.specs.Change.{IsChanged}
 use Rattle.front_core.specs.OpenSite.{IsJoined}
 use Rattle.front_core.specs.declared.change.Change.{Change}

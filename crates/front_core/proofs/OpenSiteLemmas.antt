@@ -12,7 +12,8 @@ use Rattle.std.proofs.lemmas.List.Elements.{All-weaker}
 use Rattle.cell_core.specs.Entry.{EntryKey, key_cmp}
 use Rattle.cell_core.specs.declared.stamp.Stamp.{Stamp}
 use Rattle.cata_core.specs.Site.{SiteState}
-use Rattle.catalogue.specs.Entries.{Entries, Entry, IsBelowCells, catalogue_laws}
+use Rattle.catalogue.specs.Entries.{Entries, Entry, IsBelowCells}
+use Rattle.catalogue.specs.inner.Entries.{catalogue_laws}
 use Rattle.catalogue.proofs.CatalogueBestLemmas.{own_key, same_key}
 use Rattle.cata_core.specs.Delta.{HasAtLeast}
 use Rattle.cata_core.specs.OwnEdits.{IsLackedEdit, LacksNoEdit}

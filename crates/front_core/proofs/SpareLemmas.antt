@@ -6,15 +6,18 @@ use Rattle.std.specs.Ordering.{is_lt}
 use Rattle.std.specs.Prelude.{Err, Ok, OnOk, Result}
 use Rattle.std.specs.Result.{result_ok}
 use Rattle.cell_core.specs.declared.cell.Cell.{Cell}
-use Rattle.cell_core.specs.Cell.{AgreeCells, cell_laws, joined_cells, stamp_cmp_total}
+use Rattle.cell_core.specs.Cell.{AgreeCells, joined_cells}
+use Rattle.cell_core.specs.inner.Cell.{cell_laws, stamp_cmp_total}
 use Rattle.cell_core.specs.Keyed.{AgreeIfBoth, IsMap}
-use Rattle.cell_core.specs.KeyedLaws.{also_map, at_of, find-joined_maps}
+use Rattle.cell_core.specs.inner.KeyedLaws.{also_map, at_of, find-joined_maps}
 use Rattle.cell_core.specs.Keyed.{joined_if_both}
-use Rattle.cell_core.specs.KeyedLaws.{joined_maps-IsMap, same_maps}
+use Rattle.cell_core.specs.inner.KeyedLaws.{joined_maps-IsMap, same_maps}
 use Rattle.cell_core.specs.Stamp.{stamp_cmp}
 use Rattle.cell_core.specs.Entry.{key_cmp}
-use Rattle.catalogue.specs.Entries.{Agree, Entries, IsBelowCells, catalogue_laws, joined}
-use Rattle.cell_core.specs.Entry.{EntryKey, key_cmp_exact, key_cmp_total}
+use Rattle.catalogue.specs.Entries.{Agree, Entries, IsBelowCells, joined}
+use Rattle.catalogue.specs.inner.Entries.{catalogue_laws}
+use Rattle.cell_core.specs.Entry.{EntryKey}
+use Rattle.cell_core.specs.inner.Entry.{key_cmp_exact, key_cmp_total}
 use Rattle.cata_core.specs.Site.{SiteState}
 use Rattle.catalogue.proofs.EditStampOrderLemmas.{lt_self, not_lt_trans}
 use Rattle.front_core.specs.OpenSite.{IsJoined}

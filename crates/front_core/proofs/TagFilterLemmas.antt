@@ -12,7 +12,7 @@ use Rattle.list_core.specs.Item.{Item}
 use Rattle.nego_core.specs.declared.filtering.Pick.{Pick}
 use Rattle.list_core.specs.declared.scheme.Scheme.{Scheme}
 use Rattle.front_core.specs.Preferences.{Text}
-use Rattle.front_core.specs.TagFilter.{HaveNames, texts_of}
+use Rattle.front_core.specs.inner.TagFilter.{HaveNames, texts_of}
 
 -- what is picked is one of the languages
 pub picks_within : (scheme : Scheme) (items : List Item) (langs : List (List ℕ)) (picks : List Pick)

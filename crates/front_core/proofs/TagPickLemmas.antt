@@ -23,7 +23,8 @@ use Rattle.nego_core.specs.declared.widening.Widening.TheVariants.{Off, By}
 use Rattle.nego_core.specs.declared.lookup_places.Found.{Found}
 use Rattle.nego_core.specs.Shortlist.{IsLookedUpBy}
 use Rattle.front_core.specs.Preferences.{FieldText, ReadsAs, Text, IsDefault}
-use Rattle.front_core.specs.TagPick.{Finds, HasPlace, IsPicked, IsPickedTag, IsTagAt}
+use Rattle.front_core.specs.TagPick.{Finds, IsPicked, IsPickedTag}
+use Rattle.front_core.specs.inner.TagPick.{HasPlace, IsTagAt}
 use Rattle.front_core.specs.declared.words.Finding.{Finding}
 use Rattle.front_core.specs.Tags.{SpellLangs}
 use Rattle.front_core.specs.declared.tag_pick.Picked.{Picked}

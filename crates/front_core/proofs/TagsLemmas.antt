@@ -12,7 +12,8 @@ use Rattle.std.specs.Str.{str_to_ascii_lowercase}
 use Rattle.list_core.specs.Item.{Item}
 use Rattle.nego_core.specs.Offer.{is_offered}
 use Rattle.front_core.specs.Preferences.{Text}
-use Rattle.front_core.specs.Tags.{AreOffered, HasNoLang, RefusesTags, SpellLangs, offered_tags}
+use Rattle.front_core.specs.Tags.{HasNoLang, RefusesTags, SpellLangs, offered_tags}
+use Rattle.front_core.specs.inner.Tags.{AreOffered}
 
 SpellLangs-snoc : (words : List Text) (langs : List (List ℕ)) (word : Text) (lang : List ℕ)
     → SpellLangs words langs → SpellsLang word lang

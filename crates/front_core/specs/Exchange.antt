@@ -4,7 +4,7 @@ use Rattle.cata_core.specs.Site.{SiteState}
 use Rattle.json_docs.specs.FaultChecks.{OrMemory}
 use Rattle.map_docs.specs.WritingTexts.{IsTextOf}
 use Rattle.row_docs.specs.Reading.{IsOfDocument, no_memory}
-use Rattle.site_docs.specs.Reading.{IsDeltaText, IsSiteText, ReadsAsSite}
+use Rattle.site_docs.specs.Reading.{IsDeltaText, IsSiteText}
 use Rattle.summary_docs.specs.Reading.{ReadsAsShown, RefusesShown}
 use Rattle.summary_docs.specs.Shown.{ShownState, delta_for}
 use Rattle.summary_docs.specs.Writing.{IsSummaryBy}
@@ -32,11 +32,6 @@ ShowsView view.Status site = IsFoundText (λ text. text ≡ status_line site)
 ShowsView view.Export site = IsFoundText (IsTextOf (live_labels site.cells))
 ShowsView view.Labels site =
     λ answer. AnswersLabels site.cells answer.text (is_found answer.outcome)
-
--- the text of the site of a document
-abbrev pub ShowsViewOf : View → Text → Answer → Type 0
-ShowsViewOf asked bytes answer =
-    (site : SiteState) × ReadsAsSite bytes site × ShowsView asked site answer
 
 -- the cells that the summary lacks, for its owner
 abbrev pub IsDelta : SiteState → Text → Answer → Type 0

@@ -1,4 +1,3 @@
-pub mod Arrivals
 pub mod Ask
 pub mod Change
 pub mod Exchange
@@ -15,3 +14,4 @@ pub mod TagPick
 pub mod Tags
 pub mod Translate
 pub mod Written
+pub mod inner

@@ -31,10 +31,6 @@ use Rattle.front_core.specs.declared.change.Change.{Change}
 abbrev pub IsNewSite : List ℕ → SiteState → Type 0
 IsNewSite name site = IsUtf8 name × IsSiteName name × (site ≡ record { name = name; cells = [] })
 
--- the name that the bytes are
-abbrev pub IsName : List ℕ → List ℕ → Type 0
-IsName bytes name = IsUtf8 bytes × IsSiteName bytes × (name ≡ bytes)
-
 -- the bytes are no name of a site
 abbrev pub RefusesNewSite : List ℕ → FrontFault → Type 0
 RefusesNewSite name fault = (¬ (IsUtf8 name × IsSiteName name)) × (fault ≡ Cell SiteName)
@@ -85,10 +81,6 @@ IsJoined cells old new = Agree old.cells cells
 abbrev pub RefusesJoin : Entries → SiteState → FrontFault → Type 0
 RefusesJoin cells site = IsOf site_fault (IsRefusal site.cells cells)
 
--- a join that is refused leaves the site as it was, or partly joined
-abbrev pub LeavesJoin : Entries → Edits
-LeavesJoin cells old new = (new ≡ old) ⊎ IsPartlyJoined cells old new
-
 -- ---- joins after the test for own edits
 
 -- the site lacks none of its own edits among the cells, if that is tested, and is joined with them
@@ -104,10 +96,6 @@ RefusesJoinOwn own cells site fault =
 -- the site lacks none of its own edits among the cells, if that is tested, and is partly joined
 abbrev pub IsPartlyJoinedOwn : OwnEdits → Entries → Edits
 IsPartlyJoinedOwn own cells old new = LacksNoOwn own old cells × IsPartlyJoined cells old new
-
--- the site is as it was, or partly joined
-abbrev pub LeavesJoinOwn : OwnEdits → Entries → Edits
-LeavesJoinOwn own cells old new = (new ≡ old) ⊎ IsPartlyJoinedOwn own cells old new
 
 -- ---- merges
 
@@ -141,11 +129,6 @@ abbrev pub RefusesTakeDelta : OwnEdits → Delta → SiteState → FrontFault �
 RefusesTakeDelta own delta site fault =
     ((site.name ≢ delta.addressee) × (fault ≡ site_fault (NotForMe delta.addressee)))
     ⊎ ((site.name ≡ delta.addressee) × RefusesJoinOwn own delta.cells site fault)
-
--- the site is as it was, or partly joined if the delta is for it
-abbrev pub LeavesTakeDelta : OwnEdits → Delta → Edits
-LeavesTakeDelta own delta old new =
-    (new ≡ old) ⊎ ((old.name ≡ delta.addressee) × IsPartlyJoinedOwn own delta.cells old new)
 
 -- the bytes are a delta whose times are in the limit, and it is taken
 abbrev pub IsTaken : Text → Checks → Edits

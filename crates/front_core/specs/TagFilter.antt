@@ -1,8 +1,7 @@
 -- A filter of tags: filtering (RFC 4647 section 3.3) of a priority list over the languages that
 -- tags spell.
-use Rattle.std.specs.Prelude.{◌≡◌, ◌==◌, ◌<◌, ◌⊎◌, ◌++◌, ◌∷◌, [], ℕ, List, All, codes, decimal}
-use Rattle.std.specs.Prelude.{get_or, length, map, not}
-use Rattle.std.specs.Borrow.{Bor}
+use Rattle.std.specs.Prelude.{◌≡◌, ◌==◌, ◌⊎◌, ◌++◌, ◌∷◌, [], ℕ, List, codes, decimal, get_or}
+use Rattle.std.specs.Prelude.{length, not}
 use Rattle.nego_core.specs.Filtering.{IsFiltered}
 use Rattle.list_core.specs.Item.{Item}
 use Rattle.nego_core.specs.declared.filtering.Pick.{Pick}
@@ -60,11 +59,3 @@ RefusesTagFilter field tags fault = IsOf field_fault (RefusesRanges field) fault
 abbrev pub RefusesOfferedFilter : Offers → FieldText → List Text → FrontFault → Type 0
 RefusesOfferedFilter offers field tags fault = IsOf field_fault (RefusesOffer offers) fault
     ⊎ (HasOffer offers × RefusesTagFilter field tags fault)
-
--- the texts of what is borrowed
-abbrev pub texts_of : List (Bor Text) → List Text
-texts_of names = map (λ name. name.now) names
-
--- each pick has a name
-abbrev pub HaveNames : {A : Type 0} → List A → List Pick → Type 0
-HaveNames names picks = All (λ pick. pick.place < length names) picks

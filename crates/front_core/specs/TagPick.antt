@@ -1,7 +1,6 @@
 -- A pick: lookup (RFC 4647 section 3.4), or widened lookup, of a priority list over the languages
 -- that tags spell.
-use Rattle.std.specs.Prelude.{◌≡◌, ◌<◌, ◌⊎◌, ℕ, List, ◌++◌, Option, None, Some, codes, length}
-use Rattle.std.specs.Prelude.{slice_get}
+use Rattle.std.specs.Prelude.{◌≡◌, ◌⊎◌, ℕ, List, ◌++◌, Option, None, Some, codes}
 use Rattle.lang_core.specs.Lang.{SpellsLang}
 use Rattle.lang_core.specs.Text.{pieces}
 use Rattle.nego_core.specs.Choosing.{HasOpenDefault, IsOpenDefault, IsFirst}
@@ -9,7 +8,6 @@ use Rattle.nego_core.specs.LangSet.{is_among}
 use Rattle.list_core.specs.Item.{Item}
 use Rattle.nego_core.specs.Shortlist.{IsLookedUpBy}
 use Rattle.nego_core.specs.declared.widening.Widening.{Widening}
-use Rattle.nego_core.specs.declared.lookup_places.Found.{Found}
 use Rattle.front_core.specs.Fault.{IsOf, language_fault}
 use Rattle.front_core.specs.Preferences.{FieldText, ReadsAs, Text, HasPreferences, IsDefault}
 use Rattle.front_core.specs.Offering.{IsOffer, Offers}
@@ -22,7 +20,6 @@ use Rattle.front_core.specs.declared.fault.FrontFault.{FrontFault}
 use Rattle.front_core.specs.declared.tag_pick.Picked.{Picked}
 use Rattle.front_core.specs.declared.words.Finding.{Finding}
 use Rattle.front_core.specs.declared.words.Finding.TheVariants.{Matched, Default, Nothing}
-use Rattle.nego_core.specs.declared.lookup_places.Found.TheVariants as found
 use Rattle.front_core.specs.declared.answer.Outcome.TheVariants as outcome
 use Rattle.front_core.specs.declared.tag_pick.Picked.TheVariants as picked
 
@@ -60,19 +57,6 @@ abbrev pub IsPickedOffered : Offers → FieldText → Option Text → List Text 
 IsPickedOffered offers field word tags picked = AreLangs tags
     × ((items : List Item) × IsOffer offers items
     × IsPickedTag field word (offered_tags items tags) picked)
-
--- there is a tag at the place that is found
-abbrev pub HasPlace : List Text → Found → Type 0
-HasPlace tags (found.Matched place) = place < length tags
-HasPlace tags (found.Default place) = place < length tags
-HasPlace tags found.Nothing = Unit {0}
-
--- it is this one
-abbrev pub IsTagAt : List Text → Found → Picked → Type 0
-IsTagAt tags (found.Matched place) (picked.Matched tag) = slice_get tags place ≡ Some tag.now
-IsTagAt tags (found.Default place) (picked.Default tag) = slice_get tags place ≡ Some tag.now
-IsTagAt tags found.Nothing picked.Nothing = Unit {0}
-IsTagAt _ _ _ = ⊥
 
 -- the default is refused first, then the field, and then the tags
 abbrev pub RefusesPick : FieldText → Option Text → List Text → FrontFault → Type 0

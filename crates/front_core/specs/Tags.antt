@@ -37,8 +37,3 @@ RefusesTags tags fault = HasNoLang tags fault
 -- the tags that are offered, as they are
 abbrev pub offered_tags : List Item → List Text → List Text
 offered_tags items tags = filter (λ tag. is_offered items (str_to_ascii_lowercase tag)) tags
-
--- each tag spells a language, and these are those that are offered, with what they spell
-abbrev pub AreOffered : List Item → List Text → List Text → List (List ℕ) → Type 0
-AreOffered items tags names langs =
-    AreLangs tags × (names ≡ offered_tags items tags) × SpellLangs names langs

@@ -8,7 +8,7 @@ ghost use Rattle.cell_core.specs.Entry.{key_cmp};
 ghost use Rattle.cata_core.specs.Site.{SiteState};
 ghost use Rattle.docs_core.specs.ImportingLabels.{Imports};
 ghost use Rattle.docs_core.specs.Updating.{Updates};
-ghost use Rattle.front_core.specs.Arrivals.{HasMore, KnowsMore};
+ghost use Rattle.front_core.specs.inner.Arrivals.{HasMore, KnowsMore};
 ghost use Rattle.front_core.specs.Change.{IsChanged};
 ghost use Rattle.front_core.specs.OpenSite.{IsJoined};
 

@@ -11,9 +11,9 @@ ghost use Rattle.front_core.specs.Change.{IsChanged, RefusesChange};
 ghost use Rattle.site_docs.specs.Checks.{IsOwnMissing, LacksNoOwn};
 ghost use Rattle.site_docs.specs.RowsInTime.{AreInTime, IsTimeAhead};
 ghost use Rattle.front_core.specs.Fault.{IsOf, document_fault, site_fault};
-ghost use Rattle.front_core.specs.OpenSite.{IsJoined, IsJoinedOwn, IsTakenDelta, LeavesJoin};
-ghost use Rattle.front_core.specs.OpenSite.{LeavesJoinOwn, LeavesTakeDelta, OrNoMemory};
+ghost use Rattle.front_core.specs.OpenSite.{IsJoined, IsJoinedOwn, IsTakenDelta, OrNoMemory};
 ghost use Rattle.front_core.specs.OpenSite.{RefusesJoin, RefusesJoinOwn, RefusesTakeDelta};
+ghost use Rattle.front_core.specs.inner.OpenSite.{LeavesJoin, LeavesJoinOwn, LeavesTakeDelta};
 ghost use Rattle.front_core.specs.Spare.{IsSpareOf};
 ghost use Rattle.front_core.specs.declared.fault.FrontFault.TheVariants.{NoMemory};
 

@@ -33,7 +33,8 @@ impl View {
     ghost use Rattle.json_docs.specs.FaultChecks.{OrMemory};
     ghost use Rattle.row_docs.specs.Reading.{IsOfDocument, no_memory};
     ghost use Rattle.site_docs.specs.Reading.{ReadsAsSite, RefusesSite};
-    ghost use Rattle.front_core.specs.Exchange.{ShowsView, ShowsViewOf};
+    ghost use Rattle.front_core.specs.Exchange.{ShowsView};
+    ghost use Rattle.front_core.specs.inner.Exchange.{ShowsViewOf};
 
     /// The text of the site of a document.
     fn of_document(self, alloc: Global, bytes: &[u8]) -> Result<Answer, DocFault>

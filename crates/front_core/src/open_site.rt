@@ -1,6 +1,7 @@
 //! Sites in memory that are edited and shared.
 ghost use Rattle.std.specs.Prelude.{MatchResult};
-ghost use Rattle.front_core.specs.OpenSite.{IsName, RefusesNewSite};
+ghost use Rattle.front_core.specs.OpenSite.{RefusesNewSite};
+ghost use Rattle.front_core.specs.inner.OpenSite.{IsName};
 
 use crate::change::Change;
 use crate::editing::{check_limit, import_in, join_own_in, make_in, take_in, update_in};

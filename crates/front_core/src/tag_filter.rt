@@ -5,8 +5,8 @@ ghost use Rattle.query_docs.specs.Lines.{line};
 ghost use Rattle.front_core.specs.Preferences.{field_text};
 ghost use Rattle.docs_core.specs.Lines.{lines_of};
 ghost use Rattle.front_core.specs.Offering.{offers_of};
-ghost use Rattle.front_core.specs.TagFilter.{HaveNames, IsOfferedFilter, RefusesOfferedFilter};
-ghost use Rattle.front_core.specs.TagFilter.{ShowsTaken, texts_of};
+ghost use Rattle.front_core.specs.TagFilter.{IsOfferedFilter, RefusesOfferedFilter, ShowsTaken};
+ghost use Rattle.front_core.specs.inner.TagFilter.{HaveNames, texts_of};
 
 use crate::answer::{Answer, Outcome};
 use crate::fault::FrontFault;

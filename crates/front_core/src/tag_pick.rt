@@ -3,8 +3,9 @@ ghost use Rattle.std.specs.Prelude.{option_map, MatchResult};
 ghost use Rattle.front_core.specs.Offering.{offers_of};
 ghost use Rattle.front_core.specs.Preferences.{field_text};
 ghost use Rattle.docs_core.specs.Lines.{lines_of};
-ghost use Rattle.front_core.specs.TagFilter.{texts_of};
-ghost use Rattle.front_core.specs.TagPick.{HasPlace, IsPickedOffered, IsTagAt, RefusesPickOffered};
+ghost use Rattle.front_core.specs.inner.TagFilter.{texts_of};
+ghost use Rattle.front_core.specs.TagPick.{IsPickedOffered, RefusesPickOffered};
+ghost use Rattle.front_core.specs.inner.TagPick.{HasPlace, IsTagAt};
 
 use crate::fault::FrontFault;
 use crate::offering::Offering;

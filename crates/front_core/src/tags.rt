@@ -2,8 +2,9 @@
 ghost use Rattle.std.specs.Prelude.{map, MatchResult};
 ghost use Rattle.docs_core.specs.Lines.{lines_of};
 ghost use Rattle.nego_core.specs.Offer.{items_of};
-ghost use Rattle.front_core.specs.TagFilter.{texts_of};
-ghost use Rattle.front_core.specs.Tags.{AreOffered, RefusesTags, SpellLangs};
+ghost use Rattle.front_core.specs.inner.TagFilter.{texts_of};
+ghost use Rattle.front_core.specs.Tags.{RefusesTags, SpellLangs};
+ghost use Rattle.front_core.specs.inner.Tags.{AreOffered};
 
 use docs_core::Lines;
 use lang_core::{Lang, LangFault};

@@ -4,7 +4,8 @@ ghost use Rattle.std.specs.Prelude.{None};
 ghost use Rattle.front_core.specs.Preferences.{FieldText, field_text};
 ghost use Rattle.front_core.specs.TagPick.{AnswersPick, Finds, IsPicked, IsPickLine, RefusesPick};
 ghost use Rattle.front_core.specs.TagPick.{pick_line, pick_outcome};
-ghost use Rattle.front_core.specs.TagFilter.{IsLangFilter, RefusesTagFilter, texts_of};
+ghost use Rattle.front_core.specs.TagFilter.{IsLangFilter, RefusesTagFilter};
+ghost use Rattle.front_core.specs.inner.TagFilter.{texts_of};
 
 use crate::answer::{Answer, Outcome};
 use crate::fault::FrontFault;

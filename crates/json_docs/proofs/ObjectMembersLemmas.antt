@@ -14,8 +14,9 @@ use Rattle.json.proofs.Grammar.{read_key_is, value_is, value-begin_array, value-
 use Rattle.serde_json.specs.Data.{Data, Items, Members, Num, array, number, object}
 use Rattle.serde_json.specs.Find.{as_object}
 use Rattle.serde_json.specs.Read.{converted, number_of, of_json}
-use Rattle.json_docs.specs.ScanningArrays.{ReadsItems, ReadsNoItems}
-use Rattle.json_docs.specs.ObjectMembersRead.{ReadsMembers, ReadsNoMembers, is_scalar}
+use Rattle.json_docs.specs.inner.ScanningArrays.{ReadsItems, ReadsNoItems}
+use Rattle.json_docs.specs.ObjectMembersRead.{is_scalar}
+use Rattle.json_docs.specs.inner.ObjectMembersRead.{ReadsMembers, ReadsNoMembers}
 use Rattle.json_docs.specs.Numbers.{are_in_range, is_token_in_range}
 use Rattle.json_docs.specs.ScanningReads.{Reads, data_of}
 use Rattle.json_docs.specs.Parts.{items_in}

@@ -4,7 +4,8 @@ use Rattle.std.specs.Prelude.{◌⊎◌, Option, None, Some}
 use Rattle.json.specs.Json.{parse_map}
 use Rattle.json.specs.Token.{Token}
 use Rattle.serde_json.specs.Data.{Data, Items, item}
-use Rattle.json_docs.specs.ScanningArrays.{TakesNext, TakesRows}
+use Rattle.json_docs.specs.ScanningArrays.{TakesRows}
+use Rattle.json_docs.specs.inner.ScanningArrays.{TakesNext}
 use Rattle.json_docs.specs.FaultChecks.{Check}
 use Rattle.json_docs.specs.Parts.{list_of}
 use Rattle.json_docs.specs.declared.fault.DocCause.{DocCause}

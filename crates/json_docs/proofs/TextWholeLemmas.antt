@@ -24,7 +24,8 @@ use Rattle.serde_json.specs.Data.{Data, Items, Members, Num, array, boolean, no_
 use Rattle.serde_json.specs.Data.{number, object, string}
 use Rattle.serde_json.specs.Find.{as_object}
 use Rattle.serde_json.specs.Read.{converted, number_of, of_items, of_json, of_members, read}
-use Rattle.json_docs.specs.ObjectMembersRead.{IsNotWhole, NoObject, ReadsMembers, ReadsNoMembers}
+use Rattle.json_docs.specs.ObjectMembersRead.{NoObject}
+use Rattle.json_docs.specs.inner.ObjectMembersRead.{IsNotWhole, ReadsMembers, ReadsNoMembers}
 use Rattle.json_docs.specs.Numbers.{are_in_range, is_token_in_range}
 use Rattle.json_docs.proofs.ObjectMembersLemmas.{skipped}
 use Rattle.json_docs.proofs.ScanningReadableLemmas.{is_some-of_json}

@@ -8,3 +8,4 @@ pub mod ScanningArrays
 pub mod ScanningReads
 pub mod Sinks
 pub mod Sources
+pub mod inner

@@ -1,21 +1,8 @@
 -- The rows of an array, taken one after another as they are read.
-use Rattle.std.specs.Prelude.{◌≡◌, ℕ, List, [], ◌∷◌, ◌++◌, length, Option, None, Some}
-use Rattle.json.specs.Json.{items, value}
-use Rattle.json.specs.Token.{Token}
-use Rattle.serde_json.specs.Data.{Data, Items}
-use Rattle.serde_json.specs.Read.{converted, of_items}
+use Rattle.std.specs.Prelude.{List, ◌++◌, Option, None, Some}
+use Rattle.serde_json.specs.Data.{Data}
 use Rattle.json_docs.specs.FaultChecks.{AllPass, Check, FirstFails, rows_checks}
 use Rattle.json_docs.specs.declared.fault.DocCause.{DocCause}
-
--- after its opening bracket `old` is an array of these items, which nest at most this deep, and
--- then `new`
-abbrev pub ReadsItems : ℕ → List Token → Items → List Token → Type 0
-ReadsItems depth old ds new =
-    converted of_items (items (value depth) (length old) old) ≡ Some (ds, new)
-
--- after its opening bracket `old` is no such array
-abbrev pub ReadsNoItems : ℕ → List Token → Type 0
-ReadsNoItems depth old = converted of_items (items (value depth) (length old) old) ≡ None
 
 -- after these rows all of ds pass and are held too, or the first test that fails refuses for e
 abbrev pub TakesRows : {S : Type 0} → (List Data → Data → List Check) → (S → List Data → Type 0)
@@ -23,10 +10,3 @@ abbrev pub TakesRows : {S : Type 0} → (List Data → Data → List Check) → 
 TakesRows checks Holds before new None ds =
     AllPass (rows_checks checks before ds) × Holds new (before ++ ds)
 TakesRows checks Holds before new (Some e) ds = FirstFails (rows_checks checks before ds) e
-
--- one row more: it is taken where none was refused before it
-abbrev pub TakesNext : {S : Type 0} → (List Data → Data → List Check) → (S → List Data → Type 0)
-    → List Data → Option DocCause → S → S → Option DocCause → Data → Type 0
-TakesNext checks Holds before None old new next d = Holds old before
-    → TakesRows checks Holds before new next (d ∷ [])
-TakesNext checks Holds before (Some e) old new next d = next ≡ Some e

@@ -9,10 +9,11 @@ use Rattle.std.proofs.lemmas.List.{length-map}
 use Rattle.lang_core.specs.Text.{pieces, subtags, IsSized}
 use Rattle.lang_core.specs.Grammar.{WellFormed, is_irregular, are_allowed, tag_piece}
 use Rattle.lang_core.specs.Grammar.{is_private_piece}
-use Rattle.lang_core.specs.Tag.{IsTag, RefusesTagFirst}
+use Rattle.lang_core.specs.Tag.{IsTag}
+use Rattle.lang_core.specs.inner.Tag.{RefusesTagFirst}
 use Rattle.lang_core.specs.declared.fault.LangFault.TheVariants.{TagNotWellFormed}
-use Rattle.lang_core.specs.Stage.{accepts, stage_after}
-use Rattle.lang_core.specs.TagTable.{is_staged}
+use Rattle.lang_core.specs.inner.Stage.{accepts, stage_after}
+use Rattle.lang_core.specs.inner.TagTable.{is_staged}
 use Rattle.lang_core.specs.declared.stage.Stage.{Stage}
 use Rattle.lang_core.specs.declared.stage.Stage.TheVariants.{Start}
 use Rattle.lang_core.proofs.Basics.{both, each_true, one_true, or_left, or_right}

@@ -18,7 +18,8 @@ use Rattle.lang_core.specs.Grammar.{are_allowed, is_list_of, extended_piece, bas
 use Rattle.lang_core.specs.Grammar.{is_private_piece, is_letter, is_alphanum, is_star, BasicRange}
 use Rattle.lang_core.specs.Grammar.{ExtendedRange}
 use Rattle.lang_core.specs.Matching.{as_basic, without_stars}
-use Rattle.lang_core.specs.LookupText.{lookup_text, hyphened}
+use Rattle.lang_core.specs.LookupText.{lookup_text}
+use Rattle.lang_core.specs.inner.LookupText.{hyphened}
 use Rattle.lang_core.proofs.Basics.{other_true, cases_bool, each_true, both, is_false, not_true}
 use Rattle.lang_core.proofs.Basics.{true_not}
 use Rattle.lang_core.proofs.KindLemmas.{run_of}

@@ -13,8 +13,8 @@ use Rattle.std.specs.Str.{IsAscii, IsUtf8, str_to_ascii_lowercase, bytes_eq}
 use Rattle.std.proofs.lemmas.Bool.Decides.{nat_tests}
 use Rattle.std.proofs.lemmas.Str.{IsUtf8-from_ascii}
 use Rattle.std.proofs.lemmas.Str.Ascii.{IsAscii-nil, IsAscii-cons}
-use Rattle.lang_core.specs.LowerText.{is_nonzero_ascii, IsNonzeroAscii, IsShort, filled}
-use Rattle.lang_core.specs.LowerText.{spelled_number, KeepsShort}
+use Rattle.lang_core.specs.inner.LowerText.{is_nonzero_ascii, IsNonzeroAscii, IsShort, filled}
+use Rattle.lang_core.specs.inner.LowerText.{spelled_number, KeepsShort}
 use Rattle.lang_core.proofs.Basics.{each_true, then_assoc}
 use Rattle.std.specs.Prelude.{suc, zero, slice_index, ◌==◌}
 use Rattle.std.specs.Cmp.{tied_itself, nat_cmp_is, ranks, unsigned_ties}

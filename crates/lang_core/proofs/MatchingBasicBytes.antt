@@ -3,7 +3,7 @@ use Rattle.std.proofs.Common.{ℕ, ◌≡◌, ◌⊎◌, inl, inr, List, [], ◌
 use Rattle.std.proofs.Common.{arith, append-nil}
 use Rattle.std.proofs.lemmas.Bool.Decides.{nat_tests}
 use Rattle.lang_core.specs.Text.{pieces, joined}
-use Rattle.lang_core.specs.MatchingFronts.{ends_subtag}
+use Rattle.lang_core.specs.inner.MatchingFronts.{ends_subtag}
 use Rattle.lang_core.specs.Matching.{Basic, BasicInBytes}
 use Rattle.lang_core.proofs.PiecesLemmas.{joined-pieces}
 use Rattle.lang_core.proofs.RangeText.{star_pieces}

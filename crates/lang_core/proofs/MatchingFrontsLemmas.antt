@@ -13,7 +13,7 @@ use Rattle.std.specs.Char.{to_ascii_lowercase}
 use Rattle.std.proofs.lemmas.Bool.Decides.{nat_tests}
 use Rattle.std.proofs.lemmas.Slice.Eq.{bytes_eq-Decides}
 use Rattle.lang_core.specs.Text.{pieces, subtags, joined}
-use Rattle.lang_core.specs.MatchingFronts.{ends_subtag, ends_at}
+use Rattle.lang_core.specs.inner.MatchingFronts.{ends_subtag, ends_at}
 use Rattle.lang_core.specs.Matching.{Basic, IsFront, is_basic_match}
 use Rattle.lang_core.specs.Grammar.{is_star}
 use Rattle.std.proofs.lemmas.List.{length-map, drop-map, take-map}

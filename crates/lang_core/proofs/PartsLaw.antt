@@ -8,16 +8,17 @@ use Rattle.std.specs.Str.{bytes_eq}
 use Rattle.std.proofs.lemmas.List.Folds.{list_all-append}
 use Rattle.std.proofs.lemmas.Slice.Eq.{bytes_eq-Decides}
 use Rattle.lang_core.specs.Text.{pieces, pieces_by}
-use Rattle.lang_core.specs.Stage.{accepts}
+use Rattle.lang_core.specs.inner.Stage.{accepts}
 use Rattle.lang_core.specs.declared.stage.Stage.TheVariants.{Start}
 use Rattle.lang_core.specs.Grammar.{is_run, is_short_language, is_long_language, is_extlang}
 use Rattle.lang_core.specs.Grammar.{is_script, is_region, is_variant, is_x, is_singleton}
 use Rattle.lang_core.specs.Grammar.{is_extension_piece, is_private_piece, is_irregular, irregular}
 use Rattle.lang_core.specs.Grammar.{AreAll, IsLanguage, IsExtension, IsPrivate, IsMaybePrivate}
 use Rattle.lang_core.specs.Grammar.{IsLangtag}
-use Rattle.lang_core.specs.SubtagsRuns.{begins_with, IsSplit}
-use Rattle.lang_core.specs.Parts.{HaveSameParts, after_language, after_extlangs, after_script}
-use Rattle.lang_core.specs.Parts.{after_region, after_variants}
+use Rattle.lang_core.specs.inner.SubtagsRuns.{begins_with, IsSplit}
+use Rattle.lang_core.specs.Parts.{HaveSameParts}
+use Rattle.lang_core.specs.inner.Parts.{after_language, after_extlangs, after_script, after_region}
+use Rattle.lang_core.specs.inner.Parts.{after_variants}
 use Rattle.lang_core.proofs.Basics.{each_true, both, one_true, is_false, not_true, true_not}
 use Rattle.lang_core.proofs.KindLemmas.{single, size_x, x_singleton}
 use Rattle.lang_core.proofs.PartsLemmas.{split_extlangs, split_script, split_region, split_variants}

@@ -16,17 +16,18 @@ use Rattle.std.specs.Borrow.{Bor}
 use Rattle.std.specs.List.{list_all, flat_map, AllByRecursion}
 use Rattle.lang_core.specs.Text.{pieces, subtags}
 use Rattle.lang_core.specs.Tag.{HasSubtags}
-use Rattle.lang_core.specs.TagTable.{is_staged}
-use Rattle.lang_core.specs.Stage.{accepts}
+use Rattle.lang_core.specs.inner.TagTable.{is_staged}
+use Rattle.lang_core.specs.inner.Stage.{accepts}
 use Rattle.lang_core.specs.declared.stage.Stage.TheVariants.{Start}
 use Rattle.lang_core.specs.Grammar.{is_short_language, is_long_language, is_extlang, is_script}
 use Rattle.lang_core.specs.Grammar.{is_region, is_variant, is_x, is_private_piece, AreAll}
 use Rattle.lang_core.specs.Grammar.{IsAtMostOne, IsLanguage, IsExtension, IsPrivate}
 use Rattle.lang_core.specs.Grammar.{IsMaybePrivate, IsLangtag, are_allowed, tag_piece}
-use Rattle.lang_core.specs.SubtagsRuns.{begins_with, IsSplit}
-use Rattle.lang_core.specs.Parts.{IsPart, IsRest, language_of, extlangs_of, script_of, region_of}
-use Rattle.lang_core.specs.Parts.{variants_of, after_language, after_extlangs, after_script}
-use Rattle.lang_core.specs.Parts.{after_region, after_variants}
+use Rattle.lang_core.specs.inner.SubtagsRuns.{begins_with, IsSplit}
+use Rattle.lang_core.specs.Parts.{IsPart, language_of, extlangs_of, script_of, region_of}
+use Rattle.lang_core.specs.Parts.{variants_of}
+use Rattle.lang_core.specs.inner.Parts.{IsRest, after_language, after_extlangs, after_script}
+use Rattle.lang_core.specs.inner.Parts.{after_region, after_variants}
 use Rattle.lang_core.proofs.Basics.{each_true, both, one_true}
 use Rattle.lang_core.proofs.KindLemmas.{single, size_x, size_singleton, variant_only}
 use Rattle.lang_core.proofs.KindLemmas.{region_extlang}

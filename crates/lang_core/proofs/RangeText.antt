@@ -15,7 +15,7 @@ use Rattle.lang_core.specs.Text.{pieces_by, pieces, joined}
 use Rattle.lang_core.specs.Grammar.{are_allowed, is_list_of, is_alphanum, is_letter, is_digit}
 use Rattle.lang_core.specs.Grammar.{is_private_piece, is_star, basic_piece, extended_piece}
 use Rattle.lang_core.specs.Grammar.{BasicRange, ExtendedRange, IsFirstRefused}
-use Rattle.lang_core.specs.LowerText.{is_nonzero_ascii, IsNonzeroAscii}
+use Rattle.lang_core.specs.inner.LowerText.{is_nonzero_ascii, IsNonzeroAscii}
 use Rattle.lang_core.proofs.Basics.{cases_bool, each_true, both, one_true, or_left, or_right}
 use Rattle.lang_core.proofs.KindLemmas.{run_of}
 use Rattle.lang_core.proofs.PiecesLemmas.{joined-pieces, some_pieces}

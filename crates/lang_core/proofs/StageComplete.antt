@@ -13,7 +13,7 @@ use Rattle.lang_core.specs.Grammar.{is_short_language, is_long_language, is_extl
 use Rattle.lang_core.specs.Grammar.{is_region, is_variant, is_x, is_singleton, is_extension_piece}
 use Rattle.lang_core.specs.Grammar.{is_private_piece, AreAll, IsAtMostOne, IsExtension, IsPrivate}
 use Rattle.lang_core.specs.Grammar.{IsLanguage, AreExtensions, IsMaybePrivate, IsLangtag}
-use Rattle.lang_core.specs.Stage.{next_stage, is_complete, accepts}
+use Rattle.lang_core.specs.inner.Stage.{next_stage, is_complete, accepts}
 use Rattle.lang_core.specs.declared.stage.Stage.{Stage}
 use Rattle.lang_core.specs.declared.stage.Stage.TheVariants.{Start, Language, Script, Variants}
 use Rattle.lang_core.specs.declared.stage.Stage.TheVariants.{Singleton, Extension, PrivateStart}

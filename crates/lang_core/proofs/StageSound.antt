@@ -12,8 +12,8 @@ use Rattle.lang_core.specs.Grammar.{is_short_language, is_long_language, is_extl
 use Rattle.lang_core.specs.Grammar.{is_region, is_variant, is_x, is_singleton, is_extension_piece}
 use Rattle.lang_core.specs.Grammar.{is_private_piece, AreAll, IsAtMostOne, IsPrivate, IsLanguage}
 use Rattle.lang_core.specs.Grammar.{AreExtensions, IsMaybePrivate, IsLangtag}
-use Rattle.lang_core.specs.Stage.{private_stage, extension_stage, variant_stage, region_stage}
-use Rattle.lang_core.specs.Stage.{script_stage, language_stage, start_stage, accepts}
+use Rattle.lang_core.specs.inner.Stage.{private_stage, extension_stage, variant_stage, region_stage}
+use Rattle.lang_core.specs.inner.Stage.{script_stage, language_stage, start_stage, accepts}
 use Rattle.lang_core.specs.declared.stage.Stage.{Stage}
 use Rattle.lang_core.specs.declared.stage.Stage.TheVariants.{Start, Language, Script, Variants}
 use Rattle.lang_core.specs.declared.stage.Stage.TheVariants.{Singleton, Extension, PrivateStart}

@@ -7,7 +7,7 @@ use Rattle.std.specs.Char.{is_ascii_alphabetic, is_ascii_digit, is_ascii_alphanu
 use Rattle.std.proofs.lemmas.Bool.{agree_below, agree_below_at, eqb-true}
 use Rattle.std.proofs.lemmas.Bool.Decides.{nat_tests}
 use Rattle.std.proofs.lemmas.List.Sums.{sum_by-cons}
-use Rattle.lang_core.specs.Subtag.{class_of}
+use Rattle.lang_core.specs.inner.Subtag.{class_of}
 use Rattle.lang_core.proofs.Basics.{cases_bool, each_true, is_false}
 
 -- a table of 256 bytes that agrees with the classes does so at each byte

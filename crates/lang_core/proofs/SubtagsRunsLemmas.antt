@@ -8,7 +8,7 @@ use Rattle.std.proofs.lemmas.List.Folds.{list_all-append}
 use Rattle.std.proofs.lemmas.List.Sums.{sum_by-append}
 use Rattle.lang_core.specs.Text.{pieces, joined}
 use Rattle.lang_core.specs.Grammar.{AreAll, is_private_piece}
-use Rattle.lang_core.specs.SubtagsRuns.{begins_with, IsSplit, TakesRun}
+use Rattle.lang_core.specs.inner.SubtagsRuns.{begins_with, IsSplit, TakesRun}
 use Rattle.lang_core.proofs.Basics.{each_true, both}
 use Rattle.lang_core.proofs.MatchingFrontsLemmas.{joined_some}
 use Rattle.lang_core.proofs.PiecesLemmas.{joined-pieces, size_pieces, size_cons}

@@ -20,8 +20,8 @@ use Rattle.lang_core.specs.Text.{pieces_by, subtags}
 use Rattle.lang_core.specs.Grammar.{is_letter, is_digit, is_alphanum, is_run, is_short_language}
 use Rattle.lang_core.specs.Grammar.{is_long_language, is_extlang, is_script, is_region, is_variant}
 use Rattle.lang_core.specs.Grammar.{is_x, is_singleton, is_extension_piece, is_private_piece}
-use Rattle.lang_core.specs.Stage.{accepts, is_complete, stage_after}
-use Rattle.lang_core.specs.TagTable.{byte_class, is_staged}
+use Rattle.lang_core.specs.inner.Stage.{accepts, is_complete, stage_after}
+use Rattle.lang_core.specs.inner.TagTable.{byte_class, is_staged}
 use Rattle.lang_core.specs.declared.stage.Stage.{Stage}
 use Rattle.lang_core.specs.declared.stage.Stage.TheVariants.{Start, Language, Script, Variants}
 use Rattle.lang_core.specs.declared.stage.Stage.TheVariants.{Singleton, Extension, PrivateStart}

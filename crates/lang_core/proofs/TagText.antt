@@ -6,7 +6,7 @@ use Rattle.std.proofs.lemmas.Bool.Decides.{nat_tests}
 use Rattle.std.proofs.lemmas.List.Splits.{slice_split-cons_yes, slice_split-cons_no}
 use Rattle.lang_core.specs.Text.{pieces_by, pieces}
 use Rattle.lang_core.specs.Grammar.{are_allowed, tag_piece, is_alphanum, is_private_piece}
-use Rattle.lang_core.specs.LowerText.{is_nonzero_ascii, IsNonzeroAscii}
+use Rattle.lang_core.specs.inner.LowerText.{is_nonzero_ascii, IsNonzeroAscii}
 use Rattle.lang_core.specs.Tag.{HasSubtags}
 use Rattle.lang_core.proofs.Basics.{cases_bool, each_true, both}
 use Rattle.lang_core.proofs.KindLemmas.{run_of}

@@ -1,4 +1,4 @@
-use Rattle.std.specs.Prelude.{ℕ, ◌≢◌, List, [], ◌∷◌, ◌++◌}
+use Rattle.std.specs.Prelude.{ℕ, ◌≢◌, List, [], ◌∷◌}
 use Rattle.std.specs.String.{string_bytes}
 use Rattle.lang_core.specs.Text.{pieces, joined}
 use Rattle.lang_core.specs.Matching.{as_basic}
@@ -24,8 +24,3 @@ abbrev pub IsKeptFor : List ℕ → LookupText → Type 0
 IsKeptFor range Own = Unit {0}
 IsKeptFor range Every = Unit {0}
 IsKeptFor range (Other text) = HasOtherText range
-
--- the subtags one after another, each with a hyphen before it
-abbrev pub hyphened : List (List ℕ) → List ℕ
-hyphened [] = []
-hyphened (s ∷ list) = 45 ∷ (s ++ hyphened list)

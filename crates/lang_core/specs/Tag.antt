@@ -27,9 +27,3 @@ RefusesTag text RangeEmpty = ⊥
 RefusesTag text RangeTooLong = ⊥
 RefusesTag text (RangeSubtag offset) = ⊥
 RefusesTag text NoMemory = IsTag text × TakesMemory text
-
--- the part of it that needs the pieces
-abbrev pub RefusesTagFirst : List ℕ → LangFault → Type 0
-RefusesTagFirst text (TagSubtag offset) = IsFirstRefused tag_piece (pieces text) offset
-RefusesTagFirst text TagNotWellFormed = HasSubtags text × ¬ WellFormed (pieces text)
-RefusesTagFirst text _ = ⊥

@@ -1,9 +1,10 @@
 //! The grammar of tags (RFC 5646 section 2.1).
 ghost use Rattle.std.specs.Prelude.{◌≡◌, ◌<◌, ◌≤◌, [], ◌||◌, length, MatchOption};
 ghost use Rattle.std.specs.Str.{str_to_ascii_lowercase};
-ghost use Rattle.lang_core.specs.Tag.{IsTag, RefusesTagFirst};
+ghost use Rattle.lang_core.specs.Tag.{IsTag};
+ghost use Rattle.lang_core.specs.inner.Tag.{RefusesTagFirst};
 ghost use Rattle.lang_core.specs.Grammar.{is_irregular};
-ghost use Rattle.lang_core.specs.Stage.{accepts, stage_after};
+ghost use Rattle.lang_core.specs.inner.Stage.{accepts, stage_after};
 
 use crate::fault::LangFault;
 use crate::irregular::is_irregular;
@@ -58,7 +59,7 @@ fn stage_after(stage: Option<Stage>, subtag: &Subtag) -> Option<Stage>
 }
 
 /// Whether the text is a tag, after whose last subtag the stage came.
-#[tactic(auto, unfolding(crate::specs::Stage::accepts))]
+#[tactic(auto, unfolding(crate::specs::inner::Stage::accepts))]
 fn is_well_formed(last: Option<Stage>, text: &[u8]) -> bool
     ensures { result ≡ (accepts [] last || is_irregular (str_to_ascii_lowercase text.now)) }
 {

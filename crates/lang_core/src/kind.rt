@@ -14,7 +14,7 @@ pub(crate) enum Kind {
 }
 
 impl Kind {
-    ghost use Rattle.lang_core.specs.Kind.{is_of};
+    ghost use Rattle.lang_core.specs.inner.Kind.{is_of};
 
     /// Whether the subtag of a tag, which is in lower case, is of this kind.
     pub(crate) fn has(self, subtag: &str) -> bool

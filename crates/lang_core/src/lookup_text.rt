@@ -3,8 +3,8 @@ ghost use Rattle.std.specs.Prelude.{◌≡◌, ◌++◌, List, ℕ, IfOk, IsErr,
 ghost use Rattle.std.specs.List.{list_any};
 ghost use Rattle.std.specs.String.{string_bytes};
 ghost use Rattle.lang_core.specs.Grammar.{is_star};
-ghost use Rattle.lang_core.specs.LookupText.{lookup_text, kept_text, hyphened};
-ghost use Rattle.lang_core.specs.LookupText.{HasOtherText, IsKeptFor};
+ghost use Rattle.lang_core.specs.LookupText.{lookup_text, kept_text, HasOtherText, IsKeptFor};
+ghost use Rattle.lang_core.specs.inner.LookupText.{hyphened};
 ghost use Rattle.lang_core.specs.Matching.{without_stars};
 ghost use Rattle.lang_core.specs.Subtags.{subtags_left};
 

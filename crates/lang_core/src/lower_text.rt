@@ -6,8 +6,8 @@ ghost use Rattle.std.specs.Str.{IsAscii, bytes_eq, str_to_ascii_lowercase};
 ghost use Rattle.std.specs.Ordering.{nat_cmp};
 ghost use Rattle.std.specs.Cmp.Lexicographic.{slice_cmp};
 ghost use Rattle.lang_core.specs.declared.fault.LangFault.TheVariants.{NoMemory};
-ghost use Rattle.lang_core.specs.LowerText.{IsNonzeroAscii, TakesMemory, IsShort, filled};
-ghost use Rattle.lang_core.specs.LowerText.{spelled_number};
+ghost use Rattle.lang_core.specs.LowerText.{TakesMemory};
+ghost use Rattle.lang_core.specs.inner.LowerText.{IsNonzeroAscii, IsShort, filled, spelled_number};
 
 use crate::fault::LangFault;
 use std::alloc::{AllocError, Global};
@@ -29,7 +29,8 @@ pub(crate) struct LowerText {
 
 impl Model for LowerText {
     ghost use Rattle.std.specs.Prelude.{List, ℕ};
-    ghost use Rattle.lang_core.specs.LowerTextBytes.{kept_bytes, IsKept};
+    ghost use Rattle.lang_core.specs.LowerTextBytes.{kept_bytes};
+    ghost use Rattle.lang_core.specs.inner.LowerTextBytes.{IsKept};
 
     ghost Value = { List ℕ };
 
@@ -130,7 +131,7 @@ struct ShortText {
 
 impl Model for ShortText {
     ghost use Rattle.std.specs.Prelude.{List, ℕ, length, take};
-    ghost use Rattle.lang_core.specs.LowerText.{filled, KeepsShort};
+    ghost use Rattle.lang_core.specs.inner.LowerText.{filled, KeepsShort};
 
     ghost Value = { List ℕ };
 

@@ -3,8 +3,8 @@ ghost use Rattle.std.specs.Prelude.{◌≡◌, false, ◌&&◌, ◌∷◌, ◌�
 ghost use Rattle.std.specs.Prelude.{is_some, IfSome, take};
 ghost use Rattle.std.specs.Str.{str_to_ascii_lowercase};
 ghost use Rattle.lang_core.specs.Text.{pieces, subtags};
-ghost use Rattle.lang_core.specs.MatchingFronts.{ends_at, ends_subtag};
-ghost use Rattle.lang_core.specs.Pieces.{pieces_left};
+ghost use Rattle.lang_core.specs.inner.MatchingFronts.{ends_at, ends_subtag};
+ghost use Rattle.lang_core.specs.inner.Pieces.{pieces_left};
 ghost use Rattle.lang_core.specs.Grammar.{is_star};
 ghost use Rattle.lang_core.specs.Matching.{Basic, IsFront, Extended, greedy, without_stars};
 

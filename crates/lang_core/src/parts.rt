@@ -5,9 +5,10 @@ ghost use Rattle.lang_core.specs.Text.{pieces};
 ghost use Rattle.lang_core.specs.Tag.{HasSubtags};
 ghost use Rattle.lang_core.specs.Grammar.{IsLangtag};
 ghost use Rattle.lang_core.specs.Subtags.{subtags_left};
-ghost use Rattle.lang_core.specs.Parts.{IsPart, IsRest, language_of, extlangs_of};
-ghost use Rattle.lang_core.specs.Parts.{script_of, region_of, variants_of, after_language};
-ghost use Rattle.lang_core.specs.Parts.{after_extlangs, after_script, after_region};
+ghost use Rattle.lang_core.specs.Parts.{IsPart, language_of, extlangs_of, script_of, region_of};
+ghost use Rattle.lang_core.specs.Parts.{variants_of};
+ghost use Rattle.lang_core.specs.inner.Parts.{IsRest, after_language, after_extlangs, after_script};
+ghost use Rattle.lang_core.specs.inner.Parts.{after_region};
 
 use crate::kind::Kind;
 use crate::subtags::Subtags;

@@ -15,7 +15,7 @@ pub(crate) struct Pieces<'a> {
 }
 
 impl<'a> Pieces<'a> {
-    ghost use Rattle.lang_core.specs.Pieces.{pieces_left};
+    ghost use Rattle.lang_core.specs.inner.Pieces.{pieces_left};
 
     /// The pieces of any bytes between the bytes that are the separator.
     pub(crate) fn new(text: &'a [u8], separator: u8) -> Pieces<'a>
@@ -31,7 +31,7 @@ impl<'a> Pieces<'a> {
 impl<'a> Iterator for Pieces<'a> {
     type Item = &'a [u8];
 
-    ghost use Rattle.lang_core.specs.Pieces.{pieces_left};
+    ghost use Rattle.lang_core.specs.inner.Pieces.{pieces_left};
 
     ghost next_gives = { YieldsFirstBy (λ x. x.now) pieces_left };
 

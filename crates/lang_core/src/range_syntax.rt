@@ -52,7 +52,7 @@ enum RangeSyntax {
 }
 
 impl RangeSyntax {
-    ghost use Rattle.lang_core.specs.RangeSyntax.{allowed_by};
+    ghost use Rattle.lang_core.specs.inner.RangeSyntax.{allowed_by};
 
     /// Whether a range may have the piece at the place.
     fn allows(self, place: usize, piece: &[u8]) -> bool

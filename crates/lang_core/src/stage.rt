@@ -1,8 +1,8 @@
 //! How far a tag is read, from one subtag to the next (RFC 5646 section 2.1).
 ghost use Rattle.std.specs.Prelude.{◌≡◌};
-ghost use Rattle.lang_core.specs.Stage.{next_stage, is_complete, start_stage, language_stage};
-ghost use Rattle.lang_core.specs.Stage.{region_stage, variant_stage, extension_stage};
-ghost use Rattle.lang_core.specs.Stage.{private_stage};
+ghost use Rattle.lang_core.specs.inner.Stage.{next_stage, is_complete, start_stage, language_stage};
+ghost use Rattle.lang_core.specs.inner.Stage.{region_stage, variant_stage, extension_stage};
+ghost use Rattle.lang_core.specs.inner.Stage.{private_stage};
 ghost use Rattle.lang_core.specs.declared.stage.Stage.TheVariants.{Singleton, Extension, Private};
 
 use crate::subtag::Subtag;

@@ -7,7 +7,7 @@ ghost use Rattle.lang_core.specs.Grammar.{is_letter, is_digit, is_alphanum, is_r
 ghost use Rattle.lang_core.specs.Grammar.{is_short_language, is_long_language, is_extlang};
 ghost use Rattle.lang_core.specs.Grammar.{is_script, is_region, is_variant, is_x, is_singleton};
 ghost use Rattle.lang_core.specs.Grammar.{is_extension_piece, is_private_piece};
-ghost use Rattle.lang_core.specs.Subtag.{class_of};
+ghost use Rattle.lang_core.specs.inner.Subtag.{class_of};
 
 use std::marker::Model;
 

@@ -3,8 +3,8 @@ ghost use Rattle.std.specs.Prelude.{◌≡◌, ◌∷◌, [], MatchOption, posit
 ghost use Rattle.std.specs.Iterator.{YieldsFirstBy, item_count};
 ghost use Rattle.lang_core.specs.Text.{pieces};
 ghost use Rattle.lang_core.specs.Grammar.{AreAll, is_private_piece};
-ghost use Rattle.lang_core.specs.Kind.{is_of};
-ghost use Rattle.lang_core.specs.SubtagsRuns.{IsSplit, TakesRun};
+ghost use Rattle.lang_core.specs.inner.Kind.{is_of};
+ghost use Rattle.lang_core.specs.inner.SubtagsRuns.{IsSplit, TakesRun};
 
 use crate::kind::Kind;
 use crate::pieces::{HYPHEN, separator_at};

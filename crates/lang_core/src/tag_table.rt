@@ -1,7 +1,7 @@
 //! Tags read by a table of states, with one look-up a byte (RFC 5646 section 2.1).
 ghost use Rattle.std.specs.Prelude.{◌≡◌, ◌<◌};
 ghost use Rattle.lang_core.specs.Text.{subtags};
-ghost use Rattle.lang_core.specs.TagTable.{byte_class, is_staged};
+ghost use Rattle.lang_core.specs.inner.TagTable.{byte_class, is_staged};
 
 /// The class of each byte: "x" in any case 1, another letter 0, a digit 2, a hyphen 3, any other 4.
 #[rattlefmt::skip]

@@ -31,12 +31,14 @@ use Rattle.list_core.proofs.Basics.{same_at}
 use Rattle.list_core.proofs.DecidingMostSpecificLemmas.{best_same, better_joins, Before, passed}
 use Rattle.list_core.proofs.DecidingMostSpecificLemmas.{newest}
 use Rattle.list_core.proofs.DecidingMostSpecificLemmas.{passed_to, all_before}
-use Rattle.list_core.specs.Deciding.{IsBest, better_of, is_above}
+use Rattle.list_core.specs.Deciding.{IsBest}
+use Rattle.list_core.specs.inner.Deciding.{better_of, is_above}
 use Rattle.list_core.specs.declared.deciding.MostSpecific.{MostSpecific}
 use Rattle.list_core.specs.Item.{Item}
 use Rattle.list_core.specs.Fingerprint.{fingerprint_of}
 use Rattle.list_core.specs.Buckets.{subtag_bucket, MayBeIn, AreNumbers, IsNextIn, AreLinksFrom}
-use Rattle.list_core.specs.Buckets.{AreLinked, IsIn, IsAmongBuckets, IsBucketOfOne, AreBucketsOf}
+use Rattle.list_core.specs.Buckets.{AreLinked}
+use Rattle.list_core.specs.inner.Buckets.{IsIn, IsAmongBuckets, IsBucketOfOne, AreBucketsOf}
 use Rattle.list_core.specs.declared.buckets.TheConstants.{LAST_BUCKET, BUCKET_COUNT}
 use Rattle.list_core.specs.declared.buckets.Buckets.{Buckets}
 

@@ -23,9 +23,10 @@ use Rattle.list_core.proofs.FirstTriedPrefixes.{take_is_front}
 use Rattle.list_core.proofs.DecidingMostSpecificLemmas.{best_same, better_joins}
 use Rattle.list_core.specs.Item.{Item}
 use Rattle.list_core.specs.Basics.{IsTheOne}
-use Rattle.list_core.specs.Deciding.{better_of, IsBestOf, IsBest, Matches, IsMostSpecific}
-use Rattle.list_core.specs.Deciding.{IsDeciding, IsDecidedBy, IsDecidingWeight, DecidesLang, IsAny}
+use Rattle.list_core.specs.Deciding.{IsBestOf, IsBest, Matches, IsMostSpecific, IsDeciding}
+use Rattle.list_core.specs.Deciding.{IsDecidedBy, IsDecidingWeight, DecidesLang, IsAny}
 use Rattle.list_core.specs.Deciding.{MatchesNamed}
+use Rattle.list_core.specs.inner.Deciding.{better_of}
 use Rattle.list_core.specs.declared.deciding.MostSpecific.{MostSpecific}
 use Rattle.list_core.specs.declared.deciding.Decision.{Decision}
 use Rattle.list_core.specs.declared.scheme.Scheme.{Scheme}

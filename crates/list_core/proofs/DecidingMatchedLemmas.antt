@@ -17,7 +17,8 @@ use Rattle.list_core.proofs.DecidingMostSpecificLemmas.{best_here}
 use Rattle.list_core.proofs.DecidingMostSpecificLemmas.{none_here, joined_at}
 use Rattle.list_core.proofs.DecidingLemmas.{most_specific}
 use Rattle.list_core.specs.Item.{Item}
-use Rattle.list_core.specs.Deciding.{better_of, IsBest, Matches, IsMostSpecific, IsDeciding}
+use Rattle.list_core.specs.Deciding.{IsBest, Matches, IsMostSpecific, IsDeciding}
+use Rattle.list_core.specs.inner.Deciding.{better_of}
 use Rattle.list_core.specs.declared.deciding.MostSpecific.{MostSpecific}
 use Rattle.list_core.specs.declared.scheme.Scheme.{Scheme}
 use Rattle.list_core.specs.declared.scheme.Scheme.TheVariants as scheme

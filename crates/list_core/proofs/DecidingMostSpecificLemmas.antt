@@ -15,7 +15,8 @@ use Rattle.lang_core.specs.Text.{pieces}
 use Rattle.lang_core.specs.Matching.{specificity}
 use Rattle.list_core.proofs.Basics.{same_at}
 use Rattle.list_core.specs.Item.{Item}
-use Rattle.list_core.specs.Deciding.{better_of, is_worse, is_above, IsBestOf, IsBest, NoneFits}
+use Rattle.list_core.specs.Deciding.{IsBestOf, IsBest, NoneFits}
+use Rattle.list_core.specs.inner.Deciding.{better_of, is_worse, is_above}
 use Rattle.list_core.specs.declared.deciding.MostSpecific.{MostSpecific}
 
 -- what is_worse says, both ways

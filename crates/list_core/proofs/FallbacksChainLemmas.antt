@@ -16,8 +16,8 @@ use Rattle.std.proofs.lemmas.Slice.Eq.{bytes_eq-Decides}
 use Rattle.lang_core.specs.Text.{joined, pieces}
 use Rattle.lang_core.specs.TruncationsCandidates.{candidates}
 use Rattle.lang_core.proofs.PiecesLemmas.{joined-pieces}
-use Rattle.list_core.specs.Fallbacks.{AreUnused, LeadsOn, chain_from, chain_of, fresh, is_in}
-use Rattle.list_core.specs.Fallbacks.{right_of, walk, without}
+use Rattle.list_core.specs.Fallbacks.{chain_of, fresh, is_in, right_of, walk, without}
+use Rattle.list_core.specs.inner.Fallbacks.{AreUnused, LeadsOn, chain_from}
 use Rattle.list_core.specs.declared.fallbacks.Fallback.{Fallback}
 
 -- Whether a text is one of some, by their bytes.

@@ -18,9 +18,12 @@ use Rattle.lang_core.specs.Range.{IsRange}
 use Rattle.lang_core.proofs.RangeText.{is_range_byte, range_bytes, basic_extended}
 use Rattle.list_core.proofs.WeightBlanksLemmas.{cut_only, blanks_end, blank_stops}
 use Rattle.list_core.proofs.WeightLemmas.{IsTrimmed, trimmed, skip_all, skip_none}
-use Rattle.list_core.specs.Weight.{is_blank, AreBlanks, skip_blanks, is_plain, EndsPlain, IsCut}
-use Rattle.list_core.specs.Field.{RangeGrammar, WeightGrammar, IsPadded, IsStart, HasStart}
-use Rattle.list_core.specs.Weight.{HasWeight, IsTail}
+use Rattle.list_core.specs.Weight.{is_blank, AreBlanks}
+use Rattle.list_core.specs.inner.Weight.{skip_blanks, is_plain, EndsPlain, IsCut}
+use Rattle.list_core.specs.Field.{RangeGrammar, WeightGrammar, IsPadded}
+use Rattle.list_core.specs.inner.Field.{IsStart, HasStart}
+use Rattle.list_core.specs.Weight.{HasWeight}
+use Rattle.list_core.specs.inner.Weight.{IsTail}
 use Rattle.list_core.specs.Item.{Item}
 use Rattle.list_core.specs.declared.scheme.Scheme.{Scheme}
 use Rattle.list_core.specs.declared.scheme.Scheme.TheVariants.{Basic, Extended}

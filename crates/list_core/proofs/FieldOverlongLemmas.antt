@@ -12,10 +12,10 @@ use Rattle.std.proofs.lemmas.List.Quantifiers.{position-Some}
 use Rattle.lang_core.proofs.PiecesLemmas.{pieces_whole, cut_of}
 use Rattle.list_core.proofs.Basics.{element_at}
 use Rattle.list_core.proofs.FieldElementLemmas.{range_is_sized, tail_ends}
-use Rattle.list_core.specs.Weight.{is_plain, EndsPlain}
-use Rattle.list_core.specs.Field.{IsStart, is_inner, BeginsOverlong, EndsInner}
+use Rattle.list_core.specs.inner.Weight.{is_plain, EndsPlain}
+use Rattle.list_core.specs.inner.Field.{IsStart, is_inner, BeginsOverlong, EndsInner}
 use Rattle.list_core.specs.Item.{Item}
-use Rattle.list_core.specs.Field.{IsFirstPiece}
+use Rattle.list_core.specs.inner.Field.{IsFirstPiece}
 use Rattle.list_core.specs.declared.scheme.Scheme.{Scheme}
 
 -- Where fewer bytes are before what ends a range, not so many bytes at the front end no range.

@@ -16,12 +16,12 @@ use Rattle.list_core.proofs.FieldElementLemmas.{no_item_weight}
 use Rattle.list_core.proofs.FieldElementLemmas.{has_item}
 use Rattle.list_core.proofs.FieldOverlongLemmas.{ends_early, stop_ends, comma_is}
 use Rattle.list_core.proofs.FieldSeparatorLemmas.{cut_piece, first_byte, no_pieces, pieces_at_comma}
-use Rattle.list_core.specs.Weight.{is_plain, EndsPlain, IsCut}
-use Rattle.list_core.specs.Field.{RangeGrammar, WeightGrammar, IsStart, HasStart, is_inner}
-use Rattle.list_core.specs.Field.{EndsInner, IsBegun, IsRangeEnd, BeginsOverlong}
-use Rattle.list_core.specs.Field.{IsFirstPiece}
+use Rattle.list_core.specs.inner.Weight.{is_plain, EndsPlain, IsCut}
+use Rattle.list_core.specs.Field.{RangeGrammar, WeightGrammar}
+use Rattle.list_core.specs.inner.Field.{IsStart, HasStart, is_inner, EndsInner, IsBegun, IsRangeEnd}
+use Rattle.list_core.specs.inner.Field.{BeginsOverlong, IsFirstPiece}
 use Rattle.list_core.specs.Item.{Item}
-use Rattle.list_core.specs.Weight.{IsTail}
+use Rattle.list_core.specs.inner.Weight.{IsTail}
 use Rattle.list_core.specs.declared.scheme.Scheme.{Scheme}
 
 -- ---- the element is the range and its tail

@@ -19,11 +19,12 @@ use Rattle.lang_core.proofs.PiecesLemmas.{size_pieces, size_cons}
 use Rattle.list_core.proofs.FieldWalk.{IsWalked, walked_start, walked_blank, walked_item}
 use Rattle.list_core.proofs.FieldWalk.{walked_over, walked_all, stops_malformed, stops_fitting}
 use Rattle.list_core.proofs.WeightLemmas.{skip_all, skip_only, skip_none}
-use Rattle.list_core.specs.Weight.{is_blank, AreBlanks, skip_blanks}
+use Rattle.list_core.specs.Weight.{is_blank, AreBlanks}
+use Rattle.list_core.specs.inner.Weight.{skip_blanks}
 use Rattle.list_core.proofs.FieldOverlongLemmas.{overlong_piece}
-use Rattle.list_core.specs.Field.{IsStart, HasStart, BeginsOverlong}
-use Rattle.list_core.specs.Field.{IsField, IsFirstMalformed, HasElement, RefusesField, is_separator}
-use Rattle.list_core.specs.Field.{skip_separators, IsFirstPiece}
+use Rattle.list_core.specs.Field.{IsField, IsFirstMalformed, HasElement, RefusesField}
+use Rattle.list_core.specs.inner.Field.{IsStart, HasStart, BeginsOverlong, is_separator}
+use Rattle.list_core.specs.inner.Field.{skip_separators, IsFirstPiece}
 use Rattle.list_core.specs.Item.{Item}
 use Rattle.list_core.specs.declared.scheme.Scheme.{Scheme}
 use Rattle.list_core.specs.declared.field.Malformed.{Malformed}

@@ -7,10 +7,9 @@ use Rattle.list_core.proofs.WeightLemmas.{one_tail}
 use Rattle.list_core.proofs.FieldElementLemmas.{start_of_padded, start_is}
 use Rattle.list_core.proofs.FieldWalk.{none_not_padded}
 use Rattle.list_core.specs.Item.{Item}
-use Rattle.list_core.specs.Weight.{skip_blanks}
-use Rattle.list_core.specs.Weight.{IsTail}
-use Rattle.list_core.specs.Field.{IsPadded, IsStart, WeightGrammar}
-use Rattle.list_core.specs.Field.{ArePieces, IsField}
+use Rattle.list_core.specs.inner.Weight.{skip_blanks, IsTail}
+use Rattle.list_core.specs.Field.{IsPadded, WeightGrammar, ArePieces, IsField}
+use Rattle.list_core.specs.inner.Field.{IsStart}
 use Rattle.list_core.specs.declared.scheme.Scheme.{Scheme}
 use Rattle.list_core.specs.declared.field.Malformed.{Malformed}
 

@@ -13,10 +13,11 @@ use Rattle.lang_core.specs.Text.{pieces_by}
 use Rattle.lang_core.proofs.SubtagsRunsLemmas.{regroup}
 use Rattle.list_core.proofs.WeightLemmas.{skip_only, trimmed}
 use Rattle.list_core.proofs.FieldElementLemmas.{start_of_padded, start_some, padded_of_start}
-use Rattle.list_core.specs.Weight.{is_blank, AreBlanks, skip_blanks}
-use Rattle.list_core.specs.Field.{IsPadded, IsStart, HasStart}
-use Rattle.list_core.specs.Field.{GivesNone, ArePieces, IsField, IsReadTo, IsFirstMalformed}
-use Rattle.list_core.specs.Field.{HasElement}
+use Rattle.list_core.specs.Weight.{is_blank, AreBlanks}
+use Rattle.list_core.specs.inner.Weight.{skip_blanks}
+use Rattle.list_core.specs.Field.{IsPadded, GivesNone, ArePieces, IsField, IsReadTo}
+use Rattle.list_core.specs.Field.{IsFirstMalformed, HasElement}
+use Rattle.list_core.specs.inner.Field.{IsStart, HasStart}
 use Rattle.list_core.specs.Item.{Item}
 use Rattle.list_core.specs.declared.scheme.Scheme.{Scheme}
 use Rattle.list_core.specs.declared.field.Malformed.{Malformed}

@@ -17,8 +17,10 @@ use Rattle.lang_core.specs.Lang.{tag_of}
 use Rattle.lang_core.specs.Matching.{Basic}
 use Rattle.list_core.specs.Deciding.{Matches}
 use Rattle.list_core.specs.Item.{Item}
-use Rattle.list_core.specs.Index.{IsFirstAlike, IsFirstWith, MatchFirst}
-use Rattle.list_core.specs.FirstTried.{AreFirstTried, IsFirstTried, earlier_of, item_tried}
+use Rattle.list_core.specs.Index.{IsFirstWith}
+use Rattle.list_core.specs.inner.Index.{IsFirstAlike, MatchFirst}
+use Rattle.list_core.specs.FirstTried.{AreFirstTried, IsFirstTried, item_tried}
+use Rattle.list_core.specs.inner.FirstTried.{earlier_of}
 use Rattle.list_core.specs.LookupOrder.{AreOrderKeys}
 use Rattle.list_core.specs.Deciding.{MatchesLang}
 use Rattle.list_core.specs.declared.lookup_order.OrderKey.{OrderKey}

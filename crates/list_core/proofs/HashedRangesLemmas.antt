@@ -16,7 +16,8 @@ use Rattle.list_core.proofs.IndexLemmas.{NoneBefore, none_here}
 use Rattle.list_core.specs.Item.{Item}
 use Rattle.list_core.specs.Fingerprint.{fingerprint_of}
 use Rattle.list_core.specs.Buckets.{IsNextIn}
-use Rattle.list_core.specs.HashedRanges.{AreTextBuckets, IsCrowded, bucket_numbers, bucket_of}
+use Rattle.list_core.specs.HashedRanges.{AreTextBuckets, bucket_numbers, bucket_of}
+use Rattle.list_core.specs.inner.HashedRanges.{IsCrowded}
 use Rattle.list_core.specs.declared.buckets.Buckets.{Buckets}
 
 -- ---- the numbers of the buckets

@@ -27,8 +27,9 @@ use Rattle.lang_core.proofs.Basics.{less_of as less_is}
 use Rattle.list_core.proofs.Basics.{false_true, same_default, same_at, stands_at}
 use Rattle.list_core.proofs.IndexUnique.{text_tied}
 use Rattle.list_core.specs.Item.{Item}
-use Rattle.list_core.specs.Index.{text_at, place_cmp, range_key_cmp, IsRangeIndex, IsRangeKeyOf}
-use Rattle.list_core.specs.Index.{AreRangeKeys, IsPosition, IsFirstWith, MatchFirst}
+use Rattle.list_core.specs.Index.{text_at, place_cmp, IsRangeIndex, IsFirstWith}
+use Rattle.list_core.specs.inner.Index.{range_key_cmp, IsRangeKeyOf, AreRangeKeys, IsPosition}
+use Rattle.list_core.specs.inner.Index.{MatchFirst}
 use Rattle.list_core.specs.declared.index.RangeKey.{RangeKey}
 
 -- ---- texts in order

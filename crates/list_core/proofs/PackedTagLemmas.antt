@@ -18,11 +18,11 @@ use Rattle.lang_core.specs.Text.{pieces}
 use Rattle.lang_core.specs.Grammar.{AreAll, is_star, is_run, is_letter, is_alphanum, are_allowed}
 use Rattle.lang_core.specs.Grammar.{is_private_piece, tag_piece, basic_piece, extended_piece}
 use Rattle.lang_core.specs.Grammar.{ExtendedRange}
-use Rattle.lang_core.specs.LowerText.{is_nonzero_ascii, IsNonzeroAscii}
+use Rattle.lang_core.specs.inner.LowerText.{is_nonzero_ascii, IsNonzeroAscii}
 use Rattle.lang_core.specs.Tag.{HasSubtags, IsTag}
 use Rattle.lang_core.specs.Matching.{Extended, greedy}
-use Rattle.list_core.specs.PackedTag.{is_packable, packed, all_packed, greedy_packed}
-use Rattle.list_core.specs.PackedTag.{extended_packed}
+use Rattle.list_core.specs.inner.PackedTag.{is_packable, packed, all_packed, greedy_packed}
+use Rattle.list_core.specs.inner.PackedTag.{extended_packed}
 use Rattle.lang_core.proofs.Basics.{each_true, both, one_true, or_left, or_right, is_lt}
 use Rattle.lang_core.proofs.KindLemmas.{run_of}
 use Rattle.lang_core.proofs.MatchingEmbedding.{embeds_of_greedy, greedy_of_embeds}

@@ -8,7 +8,8 @@ use Rattle.std.proofs.lemmas.Bool.{ltb-false, and_from, and_parts, cases_Bool}
 use Rattle.std.proofs.lemmas.Bool.Decides.{nat_tests}
 use Rattle.std.proofs.lemmas.Option.{cond_some}
 use Rattle.std.proofs.lemmas.List.{take_all, drop_all}
-use Rattle.list_core.specs.Weight.{is_blank, AreBlanks, is_stop, is_plain, EndsPlain, IsCut}
+use Rattle.list_core.specs.Weight.{is_blank, AreBlanks}
+use Rattle.list_core.specs.inner.Weight.{is_stop, is_plain, EndsPlain, IsCut}
 use Rattle.lang_core.proofs.PiecesLemmas.{cond_none}
 
 -- A text is cut where the bytes at its front that are neither blank nor semicolon end.

@@ -19,9 +19,10 @@ use Rattle.list_core.proofs.WeightBlanksLemmas.{cut_only, cut_front, blanks_end}
 use Rattle.list_core.specs.Field.{WeightGrammar}
 use Rattle.list_core.specs.declared.scheme.Scheme.{Scheme}
 use Rattle.list_core.specs.declared.scheme.Scheme.TheVariants.{Basic, Extended}
-use Rattle.list_core.specs.Weight.{is_blank, AreBlanks, skip_blanks, is_plain, IsCut}
-use Rattle.list_core.specs.Weight.{IsQvalue, is_zero_digit, HasWeight, IsWeight, IsLastQvalue}
-use Rattle.list_core.specs.Weight.{FollowsSemicolon, IsNamedQvalue, IsTail}
+use Rattle.list_core.specs.Weight.{is_blank, AreBlanks, IsQvalue, is_zero_digit, HasWeight}
+use Rattle.list_core.specs.Weight.{IsWeight}
+use Rattle.list_core.specs.inner.Weight.{skip_blanks, is_plain, IsCut, IsLastQvalue}
+use Rattle.list_core.specs.inner.Weight.{FollowsSemicolon, IsNamedQvalue, IsTail}
 use Rattle.list_core.specs.Basics.{IsTheOne}
 
 -- ---- blanks at the front

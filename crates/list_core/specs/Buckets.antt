@@ -1,5 +1,5 @@
-use Rattle.std.specs.Prelude.{ℕ, ◌≡◌, ◌≢◌, ◌≤◌, ◌<◌, ◌+◌, ◌%◌, ◌⊎◌, false, List}
-use Rattle.std.specs.Prelude.{length, Some, AllPairs, Contains, slice_index}
+use Rattle.std.specs.Prelude.{ℕ, ◌≡◌, ◌≢◌, ◌≤◌, ◌<◌, ◌+◌, ◌%◌, ◌⊎◌, false, List, length, Some}
+use Rattle.std.specs.Prelude.{Contains, slice_index}
 use Rattle.std.specs.List.{slice_get}
 use Rattle.lang_core.specs.Text.{pieces}
 use Rattle.lang_core.specs.Grammar.{is_star}
@@ -11,16 +11,6 @@ use Rattle.list_core.specs.declared.buckets.TheConstants.{LAST_BUCKET, BUCKET_CO
 -- the bucket of a subtag, one of those before the last
 abbrev pub subtag_bucket : List ℕ → ℕ
 subtag_bucket subtag = fingerprint_of subtag % LAST_BUCKET
-
--- the bucket of one of these subtags
-abbrev pub IsBucketOfOne : List (List ℕ) → ℕ → Type 0
-IsBucketOfOne subtags bucket = (s : List ℕ) × Contains subtags s × (subtag_bucket s ≡ bucket)
-
--- the buckets of these subtags, each once
-pub record AreBucketsOf (subtags : List (List ℕ)) (buckets : List ℕ) : Type 0 where
-  pub each : (s : List ℕ) → Contains subtags s → Contains buckets (subtag_bucket s)
-  pub only : (c : ℕ) → Contains buckets c → IsBucketOfOne subtags c
-  pub once : AllPairs ◌≢◌ buckets
 
 -- A range may be in the bucket of each of its subtags other than "*", and in the last one.
 abbrev pub MayBeIn : List (List ℕ) → ℕ → Type 0
@@ -64,12 +54,3 @@ pub record AreLinked (items : List Item) (numbers : List ℕ) (buckets : Buckets
 -- each item is in a bucket in which its range may be
 abbrev pub AreSubtagBuckets : List Item → Buckets → Type 0
 AreSubtagBuckets items buckets = (numbers : List ℕ) × AreLinked items numbers buckets
-
--- the item at the place is in the bucket
-abbrev pub IsIn : List ℕ → ℕ → ℕ → Type 0
-IsIn numbers bucket place = slice_index numbers place ≡ bucket
-
--- the item at the place is in one of these buckets, or in the last one
-abbrev pub IsAmongBuckets : List ℕ → List ℕ → ℕ → Type 0
-IsAmongBuckets numbers buckets place =
-    IsIn numbers LAST_BUCKET place ⊎ Contains buckets (slice_index numbers place)

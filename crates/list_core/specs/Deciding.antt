@@ -1,6 +1,5 @@
 use Rattle.std.specs.Prelude.{ℕ, ◌≡◌, ◌≤◌, ◌<◌, not, Bool, List, [], ◌∷◌, Some, IsSomeAnd, filter}
-use Rattle.std.specs.Prelude.{◌==◌, ◌&&◌, ◌||◌, nat_lt, true, Option, None, MatchOption}
-use Rattle.std.specs.Prelude.{if◌then◌else◌}
+use Rattle.std.specs.Prelude.{Option, MatchOption}
 use Rattle.std.specs.Str.{bytes_eq}
 use Rattle.std.specs.List.{slice_get}
 use Rattle.lang_core.specs.Text.{pieces}
@@ -79,23 +78,6 @@ abbrev pub NamedRefuse : List Item → List (List ℕ) → Type 0
 NamedRefuse items tag = (place : ℕ) × ((d : IsDecidingNamed items tag place) × (d.item.weight ≡ 0))
 
 -- ---- the best of some items
-
--- the other has more subtags other than "*", or as many and an earlier place
-abbrev pub is_worse : MostSpecific → MostSpecific → Bool
-is_worse best other =
-    nat_lt best.specificity other.specificity ||
-    ((best.specificity == other.specificity) && nat_lt other.place best.place)
-
--- the better of two that may be absent; the first where neither is
-abbrev pub better_of : Option MostSpecific → Option MostSpecific → Option MostSpecific
-better_of None other = other
-better_of (Some best) None = Some best
-better_of (Some best) (Some other) = if is_worse best other then Some other else Some best
-
--- more subtags than the best
-abbrev pub is_above : Option MostSpecific → ℕ → Bool
-is_above None n = true
-is_above (Some best) n = nat_lt best.specificity n
 
 -- of the items that fit at their places, the most specific, the first among equals
 pub record IsBestOf (Fits : ℕ → Item → Type 0) (items : List Item) (best : MostSpecific) : Type 0

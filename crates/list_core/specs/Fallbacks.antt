@@ -1,8 +1,7 @@
 -- Tables of fallbacks, and the texts that lookup tries by them (project rules).
 use Rattle.std.specs.Prelude.{ℕ, zero, suc, ◌≡◌, ◌≢◌, ◌<◌, ◌≤◌, ◌+◌, ◌-◌, ◌==◌, ◌||◌, not, Bool}
-use Rattle.std.specs.Prelude.{List, [], ◌∷◌, ◌++◌, Option, Some, None, ◌⊎◌, AllPairs, Contains}
-use Rattle.std.specs.Prelude.{drop, filter, if◌then◌else◌, length, map, position, reverse, sum_by}
-use Rattle.std.specs.Prelude.{take, IsTrue}
+use Rattle.std.specs.Prelude.{List, [], ◌∷◌, ◌++◌, Option, Some, None, ◌⊎◌, AllPairs, drop, filter}
+use Rattle.std.specs.Prelude.{if◌then◌else◌, length, map, position, reverse, sum_by, take, IsTrue}
 use Rattle.std.specs.List.{list_any}
 use Rattle.std.specs.Str.{bytes_eq, str_to_ascii_lowercase}
 use Rattle.lang_core.specs.Text.{joined, pieces, pieces_by}
@@ -143,36 +142,3 @@ abbrev pub IsFieldBy : List Fallback → Scheme → Malformed → List ℕ → L
 IsFieldBy table scheme malformed bytes list =
     (items : List Item) × IsField scheme malformed bytes items
     × (list ≡ map (with_fallbacks table) items)
-
--- ---- from text to text
-
--- the chain, where some texts were tried and some come next
-abbrev pub chain_from : List (List ℕ) → List (List (List ℕ)) → List (List ℕ)
-chain_from tried texts = tried ++ fresh tried (map joined texts)
-
--- so many elements of a table at most are not used, just those whose left sides were not tried
-pub record AreUnused (table : List Fallback) (tried : List (List ℕ)) (n : ℕ)
-    (unused : List Fallback) : Type 0 where
-  pub few : length unused ≤ n
-  pub left : (text : List ℕ) → right_of unused text
-      ≡ (if is_in tried text then None else right_of table text)
-
--- what comes next leads on: the chain goes on with it, by one element less
-pub record LeadsOn (table : List Fallback) (whole : List (List ℕ)) (n : ℕ)
-    (tried : List (List ℕ)) (right : List ℕ) : Type 0 where
-  pub others : ℕ
-  pub unused : List Fallback
-  pub fewer : n ≡ suc others
-  pub unused_ok : AreUnused table tried others unused
-  pub same : whole ≡ chain_from tried (walk others unused (candidates (pieces right)))
-
--- from some texts that were tried to more, through these, whatever the elements are that were not
--- used: the chain is whole, or a text leads on
-abbrev pub ChainsOn : List Fallback → List (List ℕ) → List (List (List ℕ)) → List (List ℕ)
-    → Option (List ℕ) → Type 0
-ChainsOn table before texts tried None =
-    (n : ℕ) (unused : List Fallback) → AreUnused table before n unused
-    → chain_from before (walk n unused texts) ≡ tried
-ChainsOn table before texts tried (Some right) =
-    (n : ℕ) (unused : List Fallback) → AreUnused table before n unused
-    → LeadsOn table (chain_from before (walk n unused texts)) n tried right

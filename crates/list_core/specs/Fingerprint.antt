@@ -1,7 +1,6 @@
--- Numbers of a text's bytes, and a table of such numbers.
+-- Numbers of a text's bytes.
 use Rattle.std.specs.Prelude.{ℕ, List, [], ◌∷◌, ◌+◌, ◌*◌, nat_lt, zero, suc, if◌then◌else◌, ◌%◌}
-use Rattle.std.specs.Prelude.{slice_index, ◌≡◌, Bool, true, false, length, Contains, fold}
-use Rattle.std.specs.Prelude.{slice_index_or}
+use Rattle.std.specs.Prelude.{slice_index, length, fold}
 
 -- what a byte counts before k others
 abbrev pub worth : ℕ → ℕ
@@ -32,9 +31,3 @@ fingerprint_step fingerprint byte = (fingerprint * 31 % 65536 + byte) % 65536
 -- the number of a whole subtag, byte after byte
 unfoldable pub fingerprint_of : List ℕ → ℕ
 fingerprint_of subtag = fold fingerprint_step 0 subtag
-
--- the numbers of all texts of the list are set in a table of this size
-pub record IsTableOf (number : List ℕ → ℕ) (size : ℕ) (list : List (List ℕ))
-    (table : List Bool) : Type 0 where
-  pub full : length table ≡ size
-  pub set : (s : List ℕ) → Contains list s → slice_index_or table (number s) false ≡ true

@@ -1,6 +1,5 @@
 -- Where in the order of lookup an item is first tried that fits.
-use Rattle.std.specs.Prelude.{ℕ, ◌≡◌, ◌≤◌, ◌<◌, nat_lt, if◌then◌else◌, List, Option, Some}
-use Rattle.std.specs.Prelude.{length, slice_index}
+use Rattle.std.specs.Prelude.{ℕ, ◌≡◌, ◌≤◌, ◌<◌, List, Option, Some, length, slice_index}
 use Rattle.std.specs.List.{slice_get}
 use Rattle.std.specs.Option.{option_and_then}
 use Rattle.list_core.specs.Item.{Item}
@@ -29,7 +28,3 @@ AreFirstTried items keys firsts =
 -- the same, or nothing at all
 abbrev pub AreFirstsIfAny : List Item → List OrderKey → List ℕ → Type 0
 AreFirstsIfAny items keys firsts = 0 < length firsts → AreFirstTried items keys firsts
-
--- the lesser of two places
-abbrev pub earlier_of : ℕ → ℕ → ℕ
-earlier_of m n = if nat_lt n m then n else m

@@ -1,5 +1,5 @@
 -- Ranges in hash buckets.
-use Rattle.std.specs.Prelude.{ℕ, ◌<◌, ◌%◌, ◌==◌, List, count_by, length, map}
+use Rattle.std.specs.Prelude.{ℕ, ◌<◌, ◌%◌, List, length, map}
 use Rattle.list_core.specs.Item.{Item}
 use Rattle.list_core.specs.Fingerprint.{fingerprint_of}
 use Rattle.list_core.specs.Buckets.{AreLinks}
@@ -17,7 +17,3 @@ bucket_numbers buckets items = map (λ i. bucket_of buckets i.range) items
 abbrev pub AreTextBuckets : List Item → Buckets → Type 0
 AreTextBuckets items buckets =
     (0 < length items) × AreLinks (length items) (bucket_numbers (length items) items) buckets
-
--- more than so many of the numbers are of one bucket
-abbrev pub IsCrowded : ℕ → List ℕ → Type 0
-IsCrowded most numbers = (bucket : ℕ) × (most < count_by (λ n. n == bucket) numbers)

@@ -1,9 +1,7 @@
 -- Items of a priority list, and when they are equal.
 use Rattle.std.specs.Prelude.{ℕ, ◌<◌, List, [], ◌∷◌, Bool, nat_eq, All, Option}
 use Rattle.std.specs.Ordering.{on, eq_of_both}
-use Rattle.std.specs.Cmp.{IsEquivalence, nat_eq_equiv, and_equiv, on_equiv}
-use Rattle.std.specs.Cmp.Lexicographic.{pointwise, on_texts_equal, lists_equiv, options_equiv}
-use Rattle.std.specs.Cmp.Lexicographic.{nat_list_eq_equiv}
+use Rattle.std.specs.Cmp.Lexicographic.{pointwise}
 use Rattle.std.specs.Option.{option_eq}
 
 -- a range, by its text, with its weight in thousandths, and the texts that lookup tries in place of
@@ -19,14 +17,6 @@ item_eq =
     eq_of_both
     (eq_of_both (on (λ i. i.range) (pointwise nat_eq)) (on (λ i. i.weight) nat_eq))
     (on (λ i. i.listed) (option_eq (pointwise (pointwise nat_eq))))
-
--- that equality is an equivalence
-pub item_equiv : IsEquivalence item_eq
-item_equiv =
-    and_equiv
-    (and_equiv (on_texts_equal (λ (i : Item). i.range))
-    (on_equiv (λ (i : Item). i.weight) nat_eq_equiv))
-    (on_equiv (λ (i : Item). i.listed) (options_equiv (lists_equiv nat_list_eq_equiv)))
 
 -- the first byte of the first subtag, or 0 where that is empty
 abbrev pub first_byte : List (List ℕ) → ℕ

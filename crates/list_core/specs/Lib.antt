@@ -2,7 +2,6 @@ pub mod Basics
 pub mod Fault
 pub mod Fingerprint
 pub mod Item
-pub mod PackedTag
 pub mod Weight
 pub mod Field
 pub mod Deciding
@@ -13,3 +12,4 @@ pub mod Index
 pub mod LookupOrder
 pub mod FirstTried
 pub mod Fallbacks
+pub mod inner

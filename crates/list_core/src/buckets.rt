@@ -7,7 +7,7 @@ ghost use Rattle.lang_core.specs.Text.{pieces};
 ghost use Rattle.list_core.specs.Fingerprint.{fingerprint_of};
 ghost use Rattle.list_core.specs.Buckets.{subtag_bucket, MayBeIn, AreNumbers, AreLinks};
 ghost use Rattle.list_core.specs.Buckets.{AreSubtagBuckets};
-ghost use Rattle.list_core.specs.Buckets.{AreBucketsOf};
+ghost use Rattle.list_core.specs.inner.Buckets.{AreBucketsOf};
 ghost use Rattle.list_core.specs.declared.buckets.TheConstants.{LAST_BUCKET, BUCKET_COUNT};
 
 use crate::fingerprint::fingerprint_of;

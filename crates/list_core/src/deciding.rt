@@ -3,8 +3,10 @@
 ghost use Rattle.std.specs.Prelude.{ℕ, ◌≡◌, ◌<◌, List};
 ghost use Rattle.lang_core.specs.Text.{pieces};
 ghost use Rattle.lang_core.specs.Matching.{Extended};
-ghost use Rattle.list_core.specs.Deciding.{IsBest, Matches, better_of, is_above, is_worse};
-ghost use Rattle.list_core.specs.Buckets.{AreSubtagBuckets, AreLinked, IsIn};
+ghost use Rattle.list_core.specs.Deciding.{IsBest, Matches};
+ghost use Rattle.list_core.specs.inner.Deciding.{better_of, is_above, is_worse};
+ghost use Rattle.list_core.specs.Buckets.{AreSubtagBuckets, AreLinked};
+ghost use Rattle.list_core.specs.inner.Buckets.{IsIn};
 ghost use Rattle.list_core.specs.declared.buckets.TheConstants.{BUCKET_COUNT};
 
 use crate::buckets::{Buckets, LAST_BUCKET, buckets_of_tag};

@@ -11,9 +11,9 @@ ghost use Rattle.lang_core.specs.Tag.{IsTag};
 ghost use Rattle.lang_core.specs.declared.fault.LangFault.TheVariants as lang;
 ghost use Rattle.lang_core.specs.Text.{pieces, pieces_by};
 ghost use Rattle.lang_core.specs.TruncationsCandidates.{candidates};
-ghost use Rattle.list_core.specs.Fallbacks.{ChainsOn, IsFallback, IsTable, LeadsOn, RefusesTable};
-ghost use Rattle.list_core.specs.Fallbacks.{chain_of, is_gap, right_of, skip_gaps};
-ghost use Rattle.list_core.specs.Fallbacks.{trim_end};
+ghost use Rattle.list_core.specs.Fallbacks.{IsFallback, IsTable, RefusesTable, chain_of, is_gap};
+ghost use Rattle.list_core.specs.Fallbacks.{right_of, skip_gaps, trim_end};
+ghost use Rattle.list_core.specs.inner.Fallbacks.{ChainsOn, LeadsOn};
 ghost use Rattle.list_core.specs.declared.fallbacks.Fallback.{Fallback};
 ghost use Rattle.list_core.specs.declared.fault.NegoFault.TheVariants.{NoMemory};
 

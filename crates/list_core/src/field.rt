@@ -1,17 +1,18 @@
 //! A field: elements between commas (RFC 9110 section 5.6.1), each a range with its weight (section
 //! 12.5.4), and what becomes of malformed ones.
 ghost use Rattle.std.specs.Prelude.{◌≡◌, ◌≤◌, length, MatchResult, ◌==◌, position, ◌++◌, ◌∷◌, []};
-ghost use Rattle.list_core.specs.Field.{IsField, RefusesField, is_separator, skip_separators};
-ghost use Rattle.list_core.specs.Field.{IsFirstPiece};
+ghost use Rattle.list_core.specs.Field.{IsField, RefusesField};
+ghost use Rattle.list_core.specs.inner.Field.{is_separator, skip_separators, IsFirstPiece};
 ghost use Rattle.list_core.specs.declared.fault.NegoFault.TheVariants.{FieldMalformed, NoMemory};
 ghost use Rattle.list_core.specs.declared.field.Malformed.TheVariants.{Refused, PassedOver};
 ghost use Rattle.std.specs.Prelude.{MatchOption, IfSome, Some};
 ghost use Rattle.std.specs.Str.{str_to_ascii_lowercase};
 ghost use Rattle.lang_core.specs.Range.{IsRange};
 ghost use Rattle.list_core.specs.Basics.{IsTheOne};
-ghost use Rattle.list_core.specs.Weight.{IsTail};
-ghost use Rattle.list_core.specs.Field.{RangeGrammar, WeightGrammar, IsStart, HasStart};
-ghost use Rattle.list_core.specs.Field.{fitting_range, is_inner, IsBegun, IsRangeEnd};
+ghost use Rattle.list_core.specs.inner.Weight.{IsTail};
+ghost use Rattle.list_core.specs.Field.{RangeGrammar, WeightGrammar};
+ghost use Rattle.list_core.specs.inner.Field.{IsStart, HasStart, fitting_range, is_inner, IsBegun};
+ghost use Rattle.list_core.specs.inner.Field.{IsRangeEnd};
 ghost use Rattle.list_core.specs.Item.{Item};
 
 use crate::fault::NegoFault;

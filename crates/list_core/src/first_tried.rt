@@ -4,7 +4,8 @@ ghost use Rattle.std.specs.Prelude.{◌≡◌, ◌≤◌, IfOk, length};
 ghost use Rattle.lang_core.specs.Text.{pieces};
 ghost use Rattle.lang_core.specs.Matching.{Basic, Extended};
 ghost use Rattle.list_core.specs.Deciding.{Matches};
-ghost use Rattle.list_core.specs.FirstTried.{AreFirstTried, IsFirstTried, earlier_of};
+ghost use Rattle.list_core.specs.FirstTried.{AreFirstTried, IsFirstTried};
+ghost use Rattle.list_core.specs.inner.FirstTried.{earlier_of};
 
 use crate::indexed_items::IndexedItems;
 use crate::item::{Item, first_byte};

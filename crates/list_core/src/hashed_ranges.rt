@@ -1,9 +1,9 @@
 //! The items of a long list in hash buckets by their ranges' texts, so that a text is compared with
 //! few of them.
 ghost use Rattle.std.specs.Prelude.{ℕ, ◌≡◌, ◌<◌, ◌↔◌, length, slice_index, IfOk, IfSome, IsTrue};
-ghost use Rattle.list_core.specs.Index.{MatchFirst};
-ghost use Rattle.list_core.specs.HashedRanges.{AreTextBuckets, IsCrowded, bucket_numbers};
-ghost use Rattle.list_core.specs.HashedRanges.{bucket_of};
+ghost use Rattle.list_core.specs.inner.Index.{MatchFirst};
+ghost use Rattle.list_core.specs.HashedRanges.{AreTextBuckets, bucket_numbers, bucket_of};
+ghost use Rattle.list_core.specs.inner.HashedRanges.{IsCrowded};
 ghost use Rattle.list_core.specs.declared.hashed_ranges.TheConstants.{MAX_BUCKET_LEN};
 
 use crate::buckets::{Buckets, link_buckets};

@@ -1,8 +1,7 @@
 //! The index of a long list: what it is under which scheme (`indexed_items` says what it is for).
 ghost use Rattle.std.specs.Prelude.{IfOk, IfSome, ◌≡◌, ◌<◌, length, IsPermutation, IsSorted, map};
-ghost use Rattle.list_core.specs.Index.{IsIndex, IsRangeIndex, MatchFirst, AreRangeKeys};
-ghost use Rattle.list_core.specs.Index.{IsPosition};
-ghost use Rattle.list_core.specs.Index.{text_at, range_key_cmp};
+ghost use Rattle.list_core.specs.Index.{IsIndex, IsRangeIndex, text_at};
+ghost use Rattle.list_core.specs.inner.Index.{MatchFirst, AreRangeKeys, IsPosition, range_key_cmp};
 ghost use Rattle.std.specs.Ordering.{is_lt, nat_cmp};
 ghost use Rattle.std.specs.Cmp.Lexicographic.{slice_cmp};
 

@@ -12,7 +12,8 @@ ghost use Rattle.std.specs.Prelude.{◌≡◌, IfSome, length};
 ghost use Rattle.lang_core.specs.Text.{pieces};
 ghost use Rattle.lang_core.specs.Matching.{Basic};
 ghost use Rattle.list_core.specs.Deciding.{IsBest, IsAny, Matches, MatchesNamed};
-ghost use Rattle.list_core.specs.Index.{IsFirstAlike, IsIndex, MatchFirst};
+ghost use Rattle.list_core.specs.Index.{IsIndex};
+ghost use Rattle.list_core.specs.inner.Index.{IsFirstAlike, MatchFirst};
 
 use crate::deciding::{MostSpecific, best_extended, best_of, better_of};
 use crate::hashed_ranges::place_in;

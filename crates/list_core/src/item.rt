@@ -7,7 +7,8 @@ ghost use Rattle.lang_core.specs.Text.{pieces};
 ghost use Rattle.lang_core.specs.Matching.{Extended, specificity};
 ghost use Rattle.std.specs.Cmp as laws_of;
 ghost use Rattle.list_core.specs.Candidates.{candidates_left, candidates_of};
-ghost use Rattle.list_core.specs.Item.{first_byte, item_eq, item_equiv};
+ghost use Rattle.list_core.specs.Item.{first_byte, item_eq};
+ghost use Rattle.list_core.specs.inner.Item.{item_equiv};
 
 use crate::candidates::Candidates;
 use crate::packed_tag::PackedTag;

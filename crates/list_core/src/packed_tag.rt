@@ -5,8 +5,8 @@ ghost use Rattle.lang_core.specs.Text.{pieces};
 ghost use Rattle.lang_core.specs.Grammar.{AreAll};
 ghost use Rattle.lang_core.specs.Subtags.{subtags_left};
 ghost use Rattle.lang_core.specs.Matching.{Extended};
-ghost use Rattle.list_core.specs.PackedTag.{is_packable, packed, all_packed, greedy_packed};
-ghost use Rattle.list_core.specs.PackedTag.{extended_packed};
+ghost use Rattle.list_core.specs.inner.PackedTag.{is_packable, packed, all_packed, greedy_packed};
+ghost use Rattle.list_core.specs.inner.PackedTag.{extended_packed};
 
 use arrayvec::ArrayVec;
 use lang_core::{Range, Subtags, Tag};
@@ -30,7 +30,7 @@ impl<'a> Model for PackedTag<'a> {
     ghost use Rattle.std.specs.Prelude.{List, ℕ, ◌≡◌};
     ghost use Rattle.lang_core.specs.Tag.{IsTag};
     ghost use Rattle.lang_core.specs.Text.{pieces};
-    ghost use Rattle.list_core.specs.PackedTag.{all_packed};
+    ghost use Rattle.list_core.specs.inner.PackedTag.{all_packed};
 
     ghost Value = { List ℕ };
 

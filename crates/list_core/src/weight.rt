@@ -1,13 +1,15 @@
 //! The weight of an element (RFC 9110 section 12.4.2), and the blanks beside it (section 5.6.3).
 ghost use Rattle.std.specs.Prelude.{◌≤◌, IfSome, ◌≡◌, IsTrue, slice_index, ◌-◌};
 ghost use Rattle.list_core.specs.Basics.{IsTheOne};
-ghost use Rattle.list_core.specs.Weight.{IsWeight, IsNoWeight, FollowsSemicolon, IsNamedQvalue};
-ghost use Rattle.list_core.specs.Weight.{IsLastQvalue, IsTail, IsQvalue, is_zero_digit};
+ghost use Rattle.list_core.specs.Weight.{IsWeight, IsNoWeight, IsQvalue, is_zero_digit};
 ghost use Rattle.list_core.specs.Weight.{thousandths};
+ghost use Rattle.list_core.specs.inner.Weight.{FollowsSemicolon, IsNamedQvalue, IsLastQvalue};
+ghost use Rattle.list_core.specs.inner.Weight.{IsTail};
 ghost use Rattle.std.specs.List.{list_all};
 ghost use Rattle.lang_core.specs.Grammar.{is_digit};
 ghost use Rattle.std.specs.Prelude.{position};
-ghost use Rattle.list_core.specs.Weight.{is_blank, skip_blanks, is_stop, IsCut};
+ghost use Rattle.list_core.specs.Weight.{is_blank};
+ghost use Rattle.list_core.specs.inner.Weight.{skip_blanks, is_stop, IsCut};
 
 /// The weight of an element that has none.
 const FULL_WEIGHT: u16 = 1000;

@@ -35,7 +35,7 @@ use Rattle.catalogue.specs.CatalogueFlat.{under}
 use Rattle.catalogue.proofs.CatalogueAboveLemmas.{IsMap-behind}
 use Rattle.catalogue.proofs.CatalogueFlatLemmas.{all_first, all_rest}
 use Rattle.json_docs.proofs.ScanningReadingLemmas.{converted-array}
-use Rattle.json_docs.specs.ScanningArrays.{ReadsItems}
+use Rattle.json_docs.specs.inner.ScanningArrays.{ReadsItems}
 use Rattle.json_docs.specs.FaultChecks.{AllPass}
 use Rattle.json_docs.specs.ScanningReads.{Reads}
 use Rattle.map_docs.specs.LabelsChecks.{is_marked, is_repeated}
@@ -43,10 +43,10 @@ use Rattle.map_docs.specs.LabelsChecks.{keys_checks, members_checks, message_che
 use Rattle.map_docs.specs.MapsLabels.{labelled, languages_of, rows_labels}
 use Rattle.map_docs.specs.MembersRows.{Keys, Rows, Strings, is_string_or_null, members_by}
 use Rattle.map_docs.specs.MembersRows.{strings_of}
-use Rattle.map_docs.specs.MembersRowsSeen.{AreLesser}
+use Rattle.map_docs.specs.inner.MembersRowsSeen.{AreLesser}
 use Rattle.map_docs.specs.Maps.{Labelled}
 use Rattle.map_docs.specs.MapsValue.{Languages}
-use Rattle.map_docs.specs.AscendingLabels.{Takes}
+use Rattle.map_docs.specs.inner.AscendingLabels.{Takes}
 use Rattle.map_docs.proofs.AscendingMapLemmas.{inserted_at_end}
 use Rattle.map_docs.proofs.MapsLabelsLemmas.{all_under, insert_is_put, keys_pass, lesser_key}
 use Rattle.map_docs.proofs.MapsLabelsLemmas.{row_unmarked, rows_labels_one, rows_pass, same_id}

@@ -46,9 +46,9 @@ use Rattle.map_docs.specs.LabelsChecks.{key_checks, keys_checks, message_checks,
 use Rattle.map_docs.specs.LabelsChecks.{members_checks, unless_marked}
 use Rattle.map_docs.specs.MapsLabels.{labelled, languages_of, row_labels, rows_labels}
 use Rattle.map_docs.specs.MembersRows.{Keys, Rows, Strings}
-use Rattle.map_docs.specs.MembersRowsSeen.{AddsLanguages, AddsRow, AreLesser, Found, HeldKeys}
-use Rattle.map_docs.specs.MembersRowsSeen.{HeldStrings, HoldsKeys, IsOneLabel, keys_in_seen}
-use Rattle.map_docs.specs.MembersRowsSeen.{keys_seen, live, rows_seen, strings_seen}
+use Rattle.map_docs.specs.inner.MembersRowsSeen.{AddsLanguages, AddsRow, AreLesser, Found, HeldKeys}
+use Rattle.map_docs.specs.inner.MembersRowsSeen.{HeldStrings, HoldsKeys, IsOneLabel, keys_in_seen}
+use Rattle.map_docs.specs.inner.MembersRowsSeen.{keys_seen, live, rows_seen, strings_seen}
 use Rattle.map_docs.specs.Maps.{Labelled}
 use Rattle.map_docs.specs.MapsValue.{Languages}
 use Rattle.json_docs.proofs.FaultChecksLemmas.{AllPass-both, FirstFails-rest, FirstFails-front}

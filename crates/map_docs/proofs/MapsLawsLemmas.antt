@@ -14,7 +14,8 @@ use Rattle.std.specs.declared.cmp.Ordering.TheVariants.{Less, Equal}
 use Rattle.cell_core.specs.Keyed.{IsMap}
 use Rattle.catalogue.proofs.CatalogueFlatLemmas.{pair_total}
 use Rattle.cell_core.proofs.KeyedPlacesLemmas.{below-at}
-use Rattle.cell_core.specs.Entry.{key_cmp, key_cmp_exact, key_cmp_total, pair_cmp, text_cmp}
+use Rattle.cell_core.specs.Entry.{key_cmp, pair_cmp, text_cmp}
+use Rattle.cell_core.specs.inner.Entry.{key_cmp_exact, key_cmp_total}
 use Rattle.list_core.proofs.IndexUnique.{one_order, text_tied, then_tied}
 use Rattle.serde_json.specs.Data.{Data}
 use Rattle.map_docs.specs.MapsLabels.{AreLangMaps, ReadsAsLangMaps, rows_labels}

@@ -20,7 +20,7 @@ use Rattle.serde_json.specs.Data.{Data, Members, no_members, member}
 use Rattle.serde_json.specs.Find.{as_str}
 use Rattle.json_docs.specs.ScanningReads.{seen}
 use Rattle.map_docs.specs.MembersRows.{is_string_or_null, members_by, strings_of}
-use Rattle.map_docs.specs.MembersRowsSeen.{members_seen}
+use Rattle.map_docs.specs.inner.MembersRowsSeen.{members_seen}
 
 -- ---- a member more, as it is read and as it is kept
 

@@ -1,11 +1,9 @@
-pub mod AscendingMap
 pub mod LabelsChecks
 pub mod Maps
 pub mod MapsLabels
 pub mod MapsLaws
 pub mod MapsValue
 pub mod MembersRows
-pub mod MembersRowsSeen
-pub mod AscendingLabels
 pub mod WritingMaps
 pub mod WritingTexts
+pub mod inner

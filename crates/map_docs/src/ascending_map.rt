@@ -4,7 +4,7 @@ ghost use Rattle.std.specs.BTreeMap.{insert_entry};
 ghost use Rattle.std.specs.List.Sorted.{IsStrictlySortedBy};
 ghost use Rattle.std.specs.Map.{keys_of};
 ghost use Rattle.cell_core.specs.KeyedAbove.{IsAboveAll};
-ghost use Rattle.map_docs.specs.AscendingMap.{entries_of};
+ghost use Rattle.map_docs.specs.inner.AscendingMap.{entries_of};
 
 use std::alloc::{AllocError, Global};
 use std::collections::BTreeMap;

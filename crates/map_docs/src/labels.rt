@@ -15,9 +15,10 @@ ghost use Rattle.map_docs.specs.LabelsChecks.{key_checks, keys_checks, message_c
 ghost use Rattle.map_docs.specs.LabelsChecks.{member_checks, members_checks};
 ghost use Rattle.map_docs.specs.MapsLabels.{languages_of, rows_labels};
 ghost use Rattle.map_docs.specs.MembersRows.{Keys as PlainKeys};
-ghost use Rattle.map_docs.specs.MembersRowsSeen.{AddsLanguages, AddsRow, AreLesser};
-ghost use Rattle.map_docs.specs.MembersRowsSeen.{AreSorted, HoldsKeys, IsOneLabel, keys_in_seen};
-ghost use Rattle.map_docs.specs.MembersRowsSeen.{keys_seen, live, rows_seen, strings_seen};
+ghost use Rattle.map_docs.specs.inner.MembersRowsSeen.{AddsLanguages, AddsRow, AreLesser};
+ghost use Rattle.map_docs.specs.inner.MembersRowsSeen.{AreSorted, HoldsKeys, IsOneLabel};
+ghost use Rattle.map_docs.specs.inner.MembersRowsSeen.{keys_in_seen, keys_seen, live, rows_seen};
+ghost use Rattle.map_docs.specs.inner.MembersRowsSeen.{strings_seen};
 ghost use Rattle.cell_core.specs.MessageId.{IsMessageId};
 ghost use Rattle.cell_core.specs.declared.fault.CellFault.TheVariants.{IdRefused};
 

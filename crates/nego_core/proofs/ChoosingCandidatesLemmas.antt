@@ -21,7 +21,8 @@ use Rattle.list_core.proofs.DecidingLemmas.{one_item_weight, most_specific, weig
 use Rattle.list_core.proofs.LookupOrderLemmas.{one_order_of}
 use Rattle.list_core.specs.Item.{Item}
 use Rattle.list_core.specs.Deciding.{IsBest, MatchesNamed, NamedRefuse}
-use Rattle.nego_core.specs.Choosing.{candidates_at, all_candidates, IsOpen}
+use Rattle.nego_core.specs.Choosing.{all_candidates, IsOpen}
+use Rattle.nego_core.specs.inner.Choosing.{candidates_at}
 use Rattle.list_core.specs.Candidates.{candidates_of}
 use Rattle.nego_core.specs.Choosing.{IsFirst, MatchFirstOf, IsLookedUp}
 use Rattle.list_core.specs.LookupOrder.{AreOrderKeys}

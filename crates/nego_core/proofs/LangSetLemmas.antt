@@ -7,7 +7,8 @@ use Rattle.std.proofs.lemmas.Bool.{cases_Bool}
 use Rattle.std.proofs.lemmas.Slice.Eq.{bytes_eq-Decides}
 use Rattle.list_core.proofs.Basics.{false_true, contains_cases, contains_first, contains_later}
 use Rattle.nego_core.specs.LangSet.{is_among}
-use Rattle.list_core.specs.Fingerprint.{slot_of, IsTableOf}
+use Rattle.list_core.specs.Fingerprint.{slot_of}
+use Rattle.list_core.specs.inner.Fingerprint.{IsTableOf}
 
 -- a text that is among the languages is one of them
 pub among_contains : (langs : List (List ℕ)) (text : List ℕ) → is_among langs text ≡ true

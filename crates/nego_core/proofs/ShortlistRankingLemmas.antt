@@ -47,11 +47,11 @@ use Rattle.list_core.specs.Candidates.{candidates_of}
 use Rattle.list_core.specs.Deciding.{NamedRefuse}
 use Rattle.list_core.specs.FirstTried.{item_tried}
 use Rattle.list_core.specs.LookupOrder.{AreOrderKeys}
-use Rattle.nego_core.specs.Shortlist.{AreAmong, AreMatchedBy, AreMatchedLangs, IsLookedUpBy}
-use Rattle.nego_core.specs.Shortlist.{IsOneOf}
-use Rattle.nego_core.specs.Shortlist.{IsRanking, matched_cmp}
-use Rattle.nego_core.specs.Unranked.{Spells, TakesFrom}
-use Rattle.nego_core.specs.WidenedChoice.{IsTriedAt, IsTriedFirst}
+use Rattle.nego_core.specs.Shortlist.{AreAmong, IsLookedUpBy, IsOneOf, IsRanking}
+use Rattle.nego_core.specs.inner.Shortlist.{AreMatchedBy, AreMatchedLangs, matched_cmp}
+use Rattle.nego_core.specs.inner.Unranked.{Spells, TakesFrom}
+use Rattle.nego_core.specs.WidenedChoice.{IsTriedAt}
+use Rattle.nego_core.specs.inner.WidenedChoice.{IsTriedFirst}
 use Rattle.nego_core.specs.Widening.{Ascends}
 use Rattle.list_core.specs.declared.lookup_order.OrderKey.{OrderKey}
 use Rattle.list_core.specs.declared.scheme.Scheme.{Scheme}

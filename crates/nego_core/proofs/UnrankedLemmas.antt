@@ -27,7 +27,7 @@ use Rattle.list_core.proofs.Basics.{contains_cases, contains_first, contains_lat
 use Rattle.nego_core.proofs.FilteringKeys.{take_next}
 use Rattle.list_core.proofs.IndexUnique.{text_tied}
 use Rattle.nego_core.specs.LangSet.{is_among}
-use Rattle.nego_core.specs.Unranked.{AreSpelled, Spells, TakesFrom, texts_left}
+use Rattle.nego_core.specs.inner.Unranked.{AreSpelled, Spells, TakesFrom, texts_left}
 
 -- languages by their texts
 abbrev Entries : Type 0

@@ -20,12 +20,13 @@ use Rattle.std.proofs.lemmas.List.Elements.{All-push, All-weaker}
 use Rattle.std.proofs.lemmas.List.Elements.{Contains-append_left, Contains-push}
 use Rattle.lang_core.specs.Text.{pieces}
 use Rattle.list_core.specs.Item.{Item}
-use Rattle.nego_core.specs.Choosing.{MatchFirstOf, candidates_at}
+use Rattle.nego_core.specs.Choosing.{MatchFirstOf}
+use Rattle.nego_core.specs.inner.Choosing.{candidates_at}
 use Rattle.list_core.specs.Deciding.{NamedRefuse}
 use Rattle.list_core.specs.FirstTried.{IsFirstTried, item_tried}
 use Rattle.list_core.specs.LookupOrder.{AreOrderKeys}
-use Rattle.nego_core.specs.WidenedChoice.{IsFirstWidenedAt, IsTriedAt, IsTriedFirst}
-use Rattle.nego_core.specs.WidenedChoice.{IsNotBefore, MatchEarliest, is_earlier}
+use Rattle.nego_core.specs.WidenedChoice.{IsTriedAt, IsNotBefore, MatchEarliest}
+use Rattle.nego_core.specs.inner.WidenedChoice.{IsFirstWidenedAt, IsTriedFirst, is_earlier}
 use Rattle.nego_core.specs.Widening.{Ascends}
 use Rattle.list_core.specs.Deciding.{MatchesLang}
 use Rattle.list_core.specs.declared.lookup_order.OrderKey.{OrderKey}

@@ -48,7 +48,7 @@ use Rattle.list_core.specs.Candidates.{candidates_of}
 use Rattle.nego_core.specs.Choosing.{MatchFirstOf}
 use Rattle.list_core.specs.LookupOrder.{AreOrderKeys, IsOrder, is_tried}
 use Rattle.nego_core.specs.LookupPlaces.{least_place}
-use Rattle.nego_core.specs.WidenedChoice.{IsFirstWidened, IsFirstWidenedAt}
+use Rattle.nego_core.specs.inner.WidenedChoice.{IsFirstWidened, IsFirstWidenedAt}
 use Rattle.nego_core.specs.Widening.{AreMatched, Ascends, IsLookedUpWidened, widened}
 use Rattle.list_core.specs.Deciding.{MatchesLang}
 use Rattle.list_core.specs.declared.lookup_order.OrderKey.{OrderKey}

@@ -1,6 +1,5 @@
-use Rattle.std.specs.Prelude.{ℕ, ◌≡◌, Bool, IsTrue, List, [], ◌∷◌, ◌++◌, Option, Some, None, All}
-use Rattle.std.specs.Prelude.{⊤}
-use Rattle.std.specs.List.{flat_map, slice_get}
+use Rattle.std.specs.Prelude.{ℕ, ◌≡◌, Bool, IsTrue, List, ◌∷◌, ◌++◌, Option, Some, None, All, ⊤}
+use Rattle.std.specs.List.{flat_map}
 use Rattle.lang_core.specs.Text.{pieces, joined}
 use Rattle.list_core.specs.Item.{Item}
 use Rattle.list_core.specs.Candidates.{candidates_of}
@@ -15,13 +14,6 @@ use Rattle.nego_core.specs.declared.choosing.Choice.TheVariants.{Matched, Defaul
 -- the candidates of all items, item by item in their order
 abbrev pub all_candidates : List Item → List (List (List ℕ))
 all_candidates items = flat_map candidates_of items
-
--- the candidates of the item at a place
-abbrev pub candidates_at : List Item → ℕ → List (List (List ℕ))
-candidates_at items place = of_item (slice_get items place) where
-  of_item : Option Item → List (List (List ℕ))
-  of_item None = []
-  of_item (Some i) = candidates_of i
 
 -- a candidate is held, and the items other than "*" do not refuse it
 abbrev pub IsOpen : List Item → (List ℕ → Bool) → List (List ℕ) → Type 0

@@ -5,7 +5,6 @@ use Rattle.std.specs.Borrow.{Bor}
 use Rattle.std.specs.declared.cmp.Ordering.{Ordering}
 use Rattle.std.specs.Ordering.{nat_cmp, on, then_cmp, eq_of_both}
 use Rattle.std.specs.Cmp.Lexicographic.{slice_cmp}
-use Rattle.std.specs.Cmp.{IsEquivalence, nat_eq_equiv, and_equiv, on_equiv}
 use Rattle.list_core.specs.Deciding.{DecidesLang}
 use Rattle.list_core.specs.Item.{Item}
 use Rattle.list_core.specs.declared.scheme.Scheme.{Scheme}
@@ -79,9 +78,3 @@ texts_of langs = map (λ l. l.now) langs
 -- the same place with the same weight
 abbrev pub pick_eq : Pick → Pick → Bool
 pick_eq = eq_of_both (on (λ p. p.place) nat_eq) (on (λ p. p.weight) nat_eq)
-
--- that equality is an equivalence
-pub pick_equiv : IsEquivalence pick_eq
-pick_equiv =
-    and_equiv (on_equiv (λ (p : Pick). p.place) nat_eq_equiv)
-    (on_equiv (λ (p : Pick). p.weight) nat_eq_equiv)

@@ -5,6 +5,6 @@ pub mod LangSet
 pub mod LookupPlaces
 pub mod Offer
 pub mod Shortlist
-pub mod Unranked
 pub mod WidenedChoice
 pub mod Widening
+pub mod inner

@@ -1,18 +1,13 @@
 -- Priority lists cut to some languages.
-use Rattle.std.specs.Prelude.{ℕ, ◌≡◌, ◌≤◌, List, [], Option, Some, None, All, Contains}
-use Rattle.std.specs.Prelude.{IsSomeAnd, IsSorted, IsTrue, length, option_map}
+use Rattle.std.specs.Prelude.{ℕ, ◌≡◌, ◌≤◌, List, Option, Some, None, All, Contains, IsSomeAnd}
+use Rattle.std.specs.Prelude.{IsTrue, length, option_map}
 use Rattle.lang_core.specs.Text.{pieces}
 use Rattle.list_core.specs.Item.{Item}
 use Rattle.nego_core.specs.LangSet.{is_among}
 use Rattle.nego_core.specs.Choosing.{IsLookedUp, MatchFirstOf}
 use Rattle.nego_core.specs.Choosing.{IsChosen}
-use Rattle.nego_core.specs.WidenedChoice.{IsChosenWidened, IsTriedAt}
+use Rattle.nego_core.specs.WidenedChoice.{IsChosenWidened}
 use Rattle.nego_core.specs.Widening.{IsLookedUpWidened}
-use Rattle.std.specs.declared.cmp.Ordering.{Ordering}
-use Rattle.std.specs.Ordering.{nat_cmp, on, then_cmp}
-use Rattle.std.specs.Cmp.Lexicographic.{slice_cmp}
-use Rattle.list_core.specs.declared.scheme.Scheme.{Scheme}
-use Rattle.nego_core.specs.declared.shortlist.MatchedLang.{MatchedLang}
 use Rattle.nego_core.specs.declared.choosing.Choice.{Choice}
 use Rattle.nego_core.specs.declared.choosing.Choice.TheVariants.{Matched, Default, Nothing}
 use Rattle.nego_core.specs.declared.widening.Widening.{Widening}
@@ -72,20 +67,3 @@ pub record IsRanking (widening : Widening) (items : List Item) (langs ranked : L
   pub finds : (some : List (List ℕ)) (found : Option (List ℕ)) → AreAmong some langs
       → MatchFirstOf (IsOneOf some) ranked found
       → IsLookedUpBy widening items some (option_map pieces found)
-
--- by the place in the order of lookup, then by the languages' bytes
-abbrev pub matched_cmp : MatchedLang → MatchedLang → Ordering
-matched_cmp = then_cmp (on (λ m. m.tried) nat_cmp) (on (λ m. m.lang) (slice_cmp nat_cmp))
-
--- each language that the items of the order match, at the first place where one does
-pub record AreMatchedLangs (scheme : Scheme) (items : List Item) (langs : List (List ℕ))
-    (matched : List MatchedLang) : Type 0 where
-  pub each : (lang : List ℕ) (n : ℕ) → Contains langs lang → IsTriedAt scheme items lang n
-      → (m : MatchedLang) × Contains matched m × (m.lang ≡ lang) × (m.tried ≤ n)
-  pub only : All (λ m. IsTriedAt scheme items m.lang m.tried) matched
-
--- the same in ascending order, where lookup is widened, and else none
-abbrev pub AreMatchedBy : Widening → List Item → List (List ℕ) → List MatchedLang → Type 0
-AreMatchedBy Off items langs matched = matched ≡ []
-AreMatchedBy (By scheme) items langs matched =
-    AreMatchedLangs scheme items langs matched × IsSorted matched_cmp matched

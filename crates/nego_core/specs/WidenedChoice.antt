@@ -1,16 +1,11 @@
 -- Widened lookup over any languages that can be searched.
-use Rattle.std.specs.Prelude.{ℕ, ◌≡◌, ◌≤◌, ◌==◌, ◌&&◌, ◌||◌, nat_lt, Bool, true}
-use Rattle.std.specs.Prelude.{List, Option, Some, None, All, Contains}
-use Rattle.std.specs.List.{slice_get}
-use Rattle.std.specs.Cmp.Lexicographic.{slice_cmp}
-use Rattle.std.specs.Ordering.{nat_cmp, is_lt}
+use Rattle.std.specs.Prelude.{ℕ, ◌≡◌, ◌≤◌, List, Option, Some, None, All, Contains}
 use Rattle.lang_core.specs.Text.{pieces}
 use Rattle.list_core.specs.Item.{Item}
 use Rattle.list_core.specs.Deciding.{NamedRefuse}
-use Rattle.nego_core.specs.Choosing.{IsOpen, MatchFirstOf}
 use Rattle.nego_core.specs.LangSet.{is_among}
 use Rattle.nego_core.specs.Choosing.{HasOpenDefault}
-use Rattle.nego_core.specs.Widening.{AreMatched, Ascends, IsLookedUpWidened, widened}
+use Rattle.nego_core.specs.Widening.{Ascends, IsLookedUpWidened}
 use Rattle.list_core.specs.Deciding.{MatchesLang}
 use Rattle.list_core.specs.declared.scheme.Scheme.{Scheme}
 use Rattle.nego_core.specs.declared.choosing.Choice.{Choice}
@@ -39,11 +34,6 @@ IsTriedAt scheme items lang n =
     × MatchesLang scheme i lang)
     × ¬ NamedRefuse items (pieces lang)
 
--- the same of the first such place
-abbrev pub IsTriedFirst : Scheme → List Item → List ℕ → ℕ → Type 0
-IsTriedFirst scheme items lang n =
-    IsTriedAt scheme items lang n × ((m : ℕ) → IsTriedAt scheme items lang m → n ≤ m)
-
 -- a language that is matched at one place does not come before one that is matched at another
 abbrev pub IsNotBefore : ℕ → List ℕ → ℕ → List ℕ → Type 0
 IsNotBefore n lang tried x = (tried ≤ n) × (n ≡ tried → ¬ Ascends lang x)
@@ -55,25 +45,3 @@ MatchEarliest scheme items langs None = All (λ l. (n : ℕ) → ¬ IsTriedAt sc
 MatchEarliest scheme items langs (Some e) =
     Contains langs e.lang.now × IsTriedAt scheme items e.lang.now e.tried
     × All (λ l. (n : ℕ) → IsTriedAt scheme items l n → IsNotBefore n l e.tried e.lang.now) langs
-
--- whether the language, matched at a place, comes before the earliest so far
-abbrev pub is_earlier : ℕ → List ℕ → Option Earliest → Bool
-is_earlier tried lang None = true
-is_earlier tried lang (Some e) =
-    nat_lt tried e.tried || ((tried == e.tried) && is_lt (slice_cmp nat_cmp lang e.lang.now))
-
--- whatever the languages are that the item matches, the first of its widened candidates that is
--- open
-abbrev pub IsFirstWidened : Scheme → List Item → List (List ℕ) → Item → Option (List (List ℕ))
-    → Type 0
-IsFirstWidened scheme items langs i found =
-    (matched : List (List ℕ)) → AreMatched scheme langs i matched
-    → MatchFirstOf (IsOpen items (is_among langs)) (widened i matched) found
-
--- the same of the item at a place
-abbrev pub IsFirstWidenedAt : Scheme → List Item → List (List ℕ) → ℕ → Option (List (List ℕ))
-    → Type 0
-IsFirstWidenedAt scheme items langs place found = of_item (slice_get items place) where
-  of_item : Option Item → Type 0
-  of_item None = found ≡ None
-  of_item (Some i) = IsFirstWidened scheme items langs i found

@@ -7,7 +7,8 @@ ghost use Rattle.list_core.specs.declared.scheme.Scheme.TheVariants as scheme;
 ghost use Rattle.lang_core.specs.Text.{pieces};
 ghost use Rattle.list_core.specs.Candidates.{candidates_of};
 ghost use Rattle.list_core.specs.Deciding.{NamedRefuse};
-ghost use Rattle.nego_core.specs.Choosing.{IsOpen, MatchFirstOf, IsLookedUp, candidates_at};
+ghost use Rattle.nego_core.specs.Choosing.{IsOpen, MatchFirstOf, IsLookedUp};
+ghost use Rattle.nego_core.specs.inner.Choosing.{candidates_at};
 
 use crate::lang_set::Holds;
 use lang_core::Lang;

@@ -5,9 +5,9 @@ ghost use Rattle.std.specs.List.{slice_get};
 ghost use Rattle.std.specs.Cmp as laws_of;
 ghost use Rattle.std.specs.Cmp.Lexicographic.{pointwise, lists_equiv};
 ghost use Rattle.std.specs.Slice.Iter.{iter_rest};
-ghost use Rattle.nego_core.specs.Filtering.{pick_eq, pick_equiv, IsFiltered, IsKey, HasNoKey};
-ghost use Rattle.nego_core.specs.Filtering.{HasPick, AreKeys, pick_of, filter_key_cmp};
-ghost use Rattle.nego_core.specs.Filtering.{texts_of};
+ghost use Rattle.nego_core.specs.Filtering.{pick_eq, IsFiltered, IsKey, HasNoKey, HasPick, AreKeys};
+ghost use Rattle.nego_core.specs.Filtering.{pick_of, filter_key_cmp, texts_of};
+ghost use Rattle.nego_core.specs.inner.Filtering.{pick_equiv};
 ghost use Rattle.list_core.specs.declared.fault.NegoFault.TheVariants.{NoMemory};
 
 use crate::as_lang::AsLang;

@@ -42,7 +42,8 @@ pub(crate) struct LangSet<'a> {
 
 impl<'a> Model for LangSet<'a> {
     ghost use Rattle.std.specs.Prelude.{List, ℕ};
-    ghost use Rattle.list_core.specs.Fingerprint.{slot_of, IsTableOf};
+    ghost use Rattle.list_core.specs.Fingerprint.{slot_of};
+    ghost use Rattle.list_core.specs.inner.Fingerprint.{IsTableOf};
 
     ghost Value = { List (List ℕ) };
 

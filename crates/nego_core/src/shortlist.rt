@@ -4,9 +4,9 @@ ghost use Rattle.std.specs.Prelude.{option_map};
 ghost use Rattle.nego_core.specs.Filtering.{texts_of};
 ghost use Rattle.nego_core.specs.LangSet.{is_among};
 ghost use Rattle.nego_core.specs.Choosing.{MatchFirstOf};
-ghost use Rattle.nego_core.specs.Shortlist.{AreAmong, AreMatchedBy, AreMatchedLangs, IsChosenBy};
-ghost use Rattle.nego_core.specs.Shortlist.{IsOneOf, IsRanking, IsShortlist, IsThere, matched_cmp};
-ghost use Rattle.nego_core.specs.Shortlist.{matched_text};
+ghost use Rattle.nego_core.specs.Shortlist.{AreAmong, IsChosenBy, IsOneOf, IsRanking, IsShortlist};
+ghost use Rattle.nego_core.specs.Shortlist.{IsThere, matched_text};
+ghost use Rattle.nego_core.specs.inner.Shortlist.{AreMatchedBy, AreMatchedLangs, matched_cmp};
 
 use crate::choosing::{Choice, has_open_default, is_open};
 use crate::unranked::Unranked;

@@ -2,7 +2,7 @@
 ghost use Rattle.std.specs.Prelude.{◌≡◌, ◌≤◌, IfOk, length, option_map, false};
 ghost use Rattle.nego_core.specs.Filtering.{texts_of};
 ghost use Rattle.nego_core.specs.LangSet.{is_among};
-ghost use Rattle.nego_core.specs.Unranked.{AreSpelled, Spells, TakesFrom, texts_left};
+ghost use Rattle.nego_core.specs.inner.Unranked.{AreSpelled, Spells, TakesFrom, texts_left};
 
 use crate::lang_set::Holds;
 use lang_core::Lang;
@@ -18,7 +18,7 @@ pub(crate) struct Unranked<'a> {
 
 impl<'a> Model for Unranked<'a> {
     ghost use Rattle.std.specs.Prelude.{List, ℕ};
-    ghost use Rattle.nego_core.specs.Unranked.{AreSpelled, texts_left};
+    ghost use Rattle.nego_core.specs.inner.Unranked.{AreSpelled, texts_left};
 
     ghost Value = { List (List ℕ) };
 

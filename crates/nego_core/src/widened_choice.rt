@@ -2,8 +2,8 @@
 ghost use Rattle.std.specs.Prelude.{◌≡◌, ◌++◌, ◌∷◌, [], ℕ, List, MatchOption, option_map};
 ghost use Rattle.lang_core.specs.Text.{pieces};
 ghost use Rattle.nego_core.specs.LangSet.{is_among};
-ghost use Rattle.nego_core.specs.WidenedChoice.{IsChosenWidened, IsTriedAt, IsTriedFirst};
-ghost use Rattle.nego_core.specs.WidenedChoice.{MatchEarliest, is_earlier};
+ghost use Rattle.nego_core.specs.WidenedChoice.{IsChosenWidened, IsTriedAt, MatchEarliest};
+ghost use Rattle.nego_core.specs.inner.WidenedChoice.{IsTriedFirst, is_earlier};
 ghost use Rattle.nego_core.specs.Widening.{IsLookedUpWidened};
 
 use crate::choosing::{Choice, first_at, has_open_default, named_refuse};

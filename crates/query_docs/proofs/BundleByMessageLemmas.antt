@@ -21,13 +21,14 @@ use Rattle.catalogue.proofs.Basics.{append_nil}
 use Rattle.catalogue.proofs.CatalogueAboveLemmas.{IsMap-behind}
 use Rattle.catalogue.proofs.CatalogueNestedLemmas.{text_exact}
 use Rattle.map_docs.specs.Maps.{Labelled}
-use Rattle.query_docs.specs.BundleByMessage.{HasBundled, default_of}
+use Rattle.query_docs.specs.inner.BundleByMessage.{HasBundled, default_of}
 use Rattle.query_docs.specs.Bundling.{IsAnswer, IsBundleBy}
-use Rattle.query_docs.specs.ByMessage.{IsNextMessage, cell_of, cells_of}
+use Rattle.query_docs.specs.inner.ByMessage.{IsNextMessage, cell_of, cells_of}
 use Rattle.query_docs.specs.declared.by_message.MessageCell.{MessageCell}
-use Rattle.query_docs.specs.Draft.{HasWritten}
+use Rattle.query_docs.specs.inner.Draft.{HasWritten}
 use Rattle.query_docs.specs.Exporting.{live_labels}
-use Rattle.query_docs.specs.LiveCellsLookup.{answered, answered_of}
+use Rattle.query_docs.specs.LiveCellsLookup.{answered}
+use Rattle.query_docs.specs.inner.LiveCellsLookup.{answered_of}
 use Rattle.query_docs.specs.declared.bundle_by_message.Bundle.{Bundle}
 use Rattle.query_docs.specs.declared.draft.Draft.{Draft}
 use Rattle.cell_core.proofs.Basics.{tied_order as tied}

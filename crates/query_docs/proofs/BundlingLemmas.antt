@@ -42,9 +42,10 @@ use Rattle.query_docs.specs.Bundling.{IsAnswer, IsBundleBy, IsBundled, IsBundled
 use Rattle.nego_core.specs.Offer.{all_items}
 use Rattle.nego_core.specs.declared.widening.Widening.TheVariants.{Off}
 use Rattle.catalogue.proofs.EntriesOfferedLemmas.{all_cells}
-use Rattle.query_docs.specs.Draft.{HasWritten}
+use Rattle.query_docs.specs.inner.Draft.{HasWritten}
 use Rattle.query_docs.specs.Exporting.{live_labels}
-use Rattle.query_docs.specs.LiveCellsLookup.{LooksUp, answered, answered_of}
+use Rattle.query_docs.specs.LiveCellsLookup.{answered}
+use Rattle.query_docs.specs.inner.LiveCellsLookup.{LooksUp, answered_of}
 use Rattle.query_docs.specs.declared.draft.Draft.{Draft}
 use Rattle.list_core.proofs.Basics.{contains_later as member_later, contains_cases as member_cases}
 use Rattle.cell_core.proofs.Basics.{both_parts, first_part, less_than, second_part}

@@ -25,9 +25,8 @@ use Rattle.catalogue.proofs.Basics.{apart_first, append_nil}
 use Rattle.catalogue.proofs.CatalogueFlatLemmas.{find-append_lists, or_none}
 use Rattle.catalogue.proofs.CatalogueNestedLemmas.{text_exact}
 use Rattle.site_docs.specs.Sink.{IsLabelRef}
-use Rattle.query_docs.specs.ByMessage.{AreLabelRefs, HasGiven, HasSeen, IsNextMessage, cell_of}
-use Rattle.query_docs.specs.ByMessage.{cells_by, cells_of, entries_in}
-use Rattle.query_docs.specs.ByMessage.{is_of}
+use Rattle.query_docs.specs.inner.ByMessage.{AreLabelRefs, HasGiven, HasSeen, IsNextMessage}
+use Rattle.query_docs.specs.inner.ByMessage.{cell_of, cells_by, cells_of, entries_in, is_of}
 use Rattle.query_docs.specs.declared.by_message.ByMessage.{ByMessage}
 use Rattle.query_docs.specs.declared.by_message.MessageCell.{MessageCell}
 use Rattle.nego_core.proofs.WideningLemmas.{none_back as all_of_second}

@@ -4,9 +4,10 @@ use Rattle.std.proofs.Common.{false}
 use Rattle.std.proofs.Common.{eqb-true, length, refl, subst, sym, true, true≢false}
 use Rattle.std.specs.Prelude.{◌==◌, ◌↔◌, codes, decimal, flat_map, not}
 use Rattle.std.specs.FinMap.Entries.{find}
-use Rattle.cell_core.specs.KeyedLaws.{same_maps}
+use Rattle.cell_core.specs.inner.KeyedLaws.{same_maps}
 use Rattle.catalogue.specs.Changes.{AreChanges, Changed, Sides}
-use Rattle.cell_core.specs.Entry.{EntryKey, key_cmp, key_cmp_exact, key_cmp_total}
+use Rattle.cell_core.specs.Entry.{EntryKey, key_cmp}
+use Rattle.cell_core.specs.inner.Entry.{key_cmp_exact, key_cmp_total}
 use Rattle.catalogue.specs.Entries.{Entries}
 use Rattle.cata_core.specs.Site.{SiteState}
 use Rattle.catalogue.proofs.Basics.{append_nil}

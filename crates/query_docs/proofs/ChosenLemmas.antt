@@ -15,9 +15,9 @@ use Rattle.cell_core.specs.declared.cell.Cell.{Cell}
 use Rattle.cell_core.specs.Entry.{key_cmp, text_cmp}
 use Rattle.catalogue.specs.Entries.{Entries, Entry}
 use Rattle.map_docs.specs.Maps.{Labelled}
-use Rattle.query_docs.specs.ByMessage.{IsNextMessage, cell_of, cells_of}
-use Rattle.query_docs.specs.Chosen.{HasChosen, chosen_labels, is_chosen}
-use Rattle.query_docs.specs.Draft.{HasWritten}
+use Rattle.query_docs.specs.inner.ByMessage.{IsNextMessage, cell_of, cells_of}
+use Rattle.query_docs.specs.inner.Chosen.{HasChosen, chosen_labels, is_chosen}
+use Rattle.query_docs.specs.inner.Draft.{HasWritten}
 use Rattle.query_docs.specs.Exporting.{live_labels}
 use Rattle.query_docs.specs.Outdated.{is_before, labelled_at, live_time}
 use Rattle.query_docs.specs.declared.by_message.MessageCell.{MessageCell}

@@ -10,7 +10,7 @@ use Rattle.map_docs.specs.MapsLaws.{IsWritable}
 use Rattle.map_docs.specs.Maps.{Labelled}
 use Rattle.map_docs.specs.WritingMaps.{IsWriting, label_tokens, opening_tokens}
 use Rattle.map_docs.proofs.WritingLemmas.{writing_next}
-use Rattle.query_docs.specs.Draft.{HasWritten, labelled_by}
+use Rattle.query_docs.specs.inner.Draft.{HasWritten, labelled_by}
 use Rattle.query_docs.specs.Exporting.{live_labels}
 use Rattle.query_docs.specs.declared.draft.Draft.{Draft}
 

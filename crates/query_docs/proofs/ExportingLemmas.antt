@@ -6,12 +6,13 @@ use Rattle.std.specs.Ordering.{eq_by_cmp, is_lt}
 use Rattle.std.specs.FinMap.Entries.{below_all, find, is_sorted}
 use Rattle.cell_core.specs.Keyed.{IsMap}
 use Rattle.cell_core.specs.declared.cell.Cell.{Cell}
-use Rattle.cell_core.specs.Entry.{EntryKey, key_cmp, key_cmp_total}
+use Rattle.cell_core.specs.Entry.{EntryKey, key_cmp}
+use Rattle.cell_core.specs.inner.Entry.{key_cmp_total}
 use Rattle.catalogue.specs.Entries.{Entries}
 use Rattle.cell_core.proofs.KeyedPlacesLemmas.{find-below, below_tied}
 use Rattle.catalogue.proofs.EntriesFilteredLemmas.{filter-IsMap}
 use Rattle.map_docs.specs.Maps.{Labelled}
-use Rattle.query_docs.specs.Chosen.{chosen_labels, is_chosen}
+use Rattle.query_docs.specs.inner.Chosen.{chosen_labels, is_chosen}
 use Rattle.query_docs.specs.Exporting.{label_at, live_labels}
 use Rattle.query_docs.specs.declared.messages.Messages.{Messages}
 use Rattle.cell_core.proofs.Basics.{both_parts, first_part, second_part, tied_order as tied}

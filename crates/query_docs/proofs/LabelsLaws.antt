@@ -20,9 +20,10 @@ use Rattle.std.proofs.lemmas.List.Sums.{sum_by-cons, sum_by-insert}
 use Rattle.cell_core.specs.Cell.{joined_cells}
 use Rattle.cell_core.specs.declared.cell.Cell.{Cell}
 use Rattle.cell_core.specs.Keyed.{IsMap, joined_at, joined_entries, joined_if_both}
-use Rattle.cell_core.specs.KeyedLaws.{find-joined_entries, joined_of_maps, same_maps}
-use Rattle.cell_core.specs.KeyedPlaces.{place_of}
-use Rattle.cell_core.specs.Entry.{EntryKey, key_cmp, key_cmp_total, text_cmp}
+use Rattle.cell_core.specs.inner.KeyedLaws.{find-joined_entries, joined_of_maps, same_maps}
+use Rattle.cell_core.specs.inner.KeyedPlaces.{place_of}
+use Rattle.cell_core.specs.Entry.{EntryKey, key_cmp, text_cmp}
+use Rattle.cell_core.specs.inner.Entry.{key_cmp_total}
 use Rattle.catalogue.specs.Entries.{Entries, Entry, joined}
 use Rattle.catalogue.specs.CatalogueParts.{part_of}
 use Rattle.catalogue.specs.Live.{Labelled, is_live, live, live_of}

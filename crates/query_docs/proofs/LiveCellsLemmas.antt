@@ -15,10 +15,11 @@ use Rattle.catalogue.specs.Live.{Labelled, is_live, languages, live, live_of}
 use Rattle.catalogue.specs.declared.reply.Reply.{Reply}
 use Rattle.catalogue.proofs.CatalogueNestedLemmas.{text_exact}
 use Rattle.site_docs.specs.Sink.{texts_of}
-use Rattle.query_docs.specs.ByMessage.{cell_of, cells_of}
-use Rattle.query_docs.specs.Draft.{labelled_by}
-use Rattle.query_docs.specs.LiveCells.{label_of, labels_of}
-use Rattle.query_docs.specs.LiveCellsLookup.{answered, answered_of}
+use Rattle.query_docs.specs.inner.ByMessage.{cell_of, cells_of}
+use Rattle.query_docs.specs.inner.Draft.{labelled_by}
+use Rattle.query_docs.specs.inner.LiveCells.{label_of, labels_of}
+use Rattle.query_docs.specs.LiveCellsLookup.{answered}
+use Rattle.query_docs.specs.inner.LiveCellsLookup.{answered_of}
 use Rattle.query_docs.specs.declared.by_message.MessageCell.{MessageCell}
 use Rattle.lang_core.proofs.Basics.{and_true, each_true as both}
 use Rattle.cell_core.proofs.Basics.{tied_order as tied}

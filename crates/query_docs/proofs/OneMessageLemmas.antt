@@ -11,7 +11,7 @@ use Rattle.cell_core.specs.Entry.{EntryKey, key_cmp, text_cmp}
 use Rattle.catalogue.specs.Entries.{Entries, Entry, IsAboveAll}
 use Rattle.catalogue.specs.Live.{Labelled, live, live_of}
 use Rattle.query_docs.specs.Asking.{Answers}
-use Rattle.query_docs.specs.OneMessage.{KeepsMessage, is_of}
+use Rattle.query_docs.specs.inner.OneMessage.{KeepsMessage, is_of}
 use Rattle.query_docs.specs.declared.asking.Ask.{Ask}
 use Rattle.query_docs.specs.declared.asking.Ask.TheVariants.{Filter, Lookup}
 use Rattle.query_docs.specs.declared.one_message.OneMessage.{OneMessage}

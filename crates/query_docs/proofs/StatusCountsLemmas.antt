@@ -8,7 +8,7 @@ use Rattle.cell_core.specs.Keyed.{joined_if_both}
 use Rattle.catalogue.specs.Entries.{Entries, Entry}
 use Rattle.catalogue.specs.CatalogueLatest.{latest_of}
 use Rattle.catalogue.proofs.CatalogueLatestLemmas.{latest_assoc}
-use Rattle.query_docs.specs.StatusCounts.{AreCounts}
+use Rattle.query_docs.specs.inner.StatusCounts.{AreCounts}
 use Rattle.query_docs.specs.Status.{is_labelled}
 use Rattle.query_docs.specs.declared.status.Counts.{Counts}
 

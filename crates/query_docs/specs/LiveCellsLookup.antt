@@ -1,29 +1,10 @@
--- The labels that a lookup answers for one message after another.
-use Rattle.std.specs.Prelude.{◌≡◌, ◌++◌, ℕ, List, [], ◌∷◌, None, Option, Some, option_map}
-use Rattle.std.specs.Prelude.{option_to_list}
-use Rattle.list_core.specs.Item.{Item}
-use Rattle.nego_core.specs.declared.widening.Widening.{Widening}
-use Rattle.catalogue.specs.Asking.{IsLookedUpIn}
-use Rattle.catalogue.specs.LiveMessages.{LiveMessage}
+-- The label that a lookup answers.
+use Rattle.std.specs.Prelude.{ℕ, List, None, Option, Some}
 use Rattle.catalogue.specs.declared.reply.Reply.{Reply}
 use Rattle.catalogue.specs.declared.reply.Reply.TheVariants.{Default, Matched, Nothing}
-use Rattle.map_docs.specs.Maps.{Labelled}
 
 -- the language that was answered, with its label
 abbrev pub answered : Reply → Option (List ℕ × List (List ℕ))
 answered (Matched lang label) = Some (lang, label)
 answered (Default lang label) = Some (lang, label)
 answered Nothing = None
-
--- the same, with its message
-abbrev pub answered_of : List ℕ → Option (List ℕ × List (List ℕ)) → List Labelled
-answered_of id found = option_to_list (option_map (λ p. ((id, p.0), p.1)) found)
-
--- the labels that are answered for these messages
-abbrev pub LooksUp : Widening → List Item → Option (List ℕ) → List LiveMessage → List Labelled
-    → Type 0
-LooksUp widening items default [] labels = labels ≡ []
-LooksUp widening items default (m ∷ ms) labels =
-    (reply : Reply) × (rest : List Labelled) × IsLookedUpIn widening m.1 items default reply
-    × LooksUp widening items default ms rest
-    × (labels ≡ answered_of m.0 (answered reply) ++ rest)

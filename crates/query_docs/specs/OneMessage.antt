@@ -1,22 +1,8 @@
 -- A site that is read for one message.
-use Rattle.std.specs.Prelude.{◌≡◌, ℕ, Bool, List}
-use Rattle.std.specs.Ordering.{is_eq}
-use Rattle.cell_core.specs.Entry.{text_cmp}
-use Rattle.catalogue.specs.Entries.{Entries}
+use Rattle.std.specs.Prelude.{◌≡◌, ℕ, List}
 use Rattle.catalogue.specs.Live.{live}
-use Rattle.catalogue.specs.CatalogueParts.{part_of}
 use Rattle.cata_core.specs.Site.{SiteState}
 use Rattle.site_docs.specs.Reading.{ReadsAsSite}
-use Rattle.query_docs.specs.declared.one_message.OneMessage.{OneMessage}
-
--- whether an id is this one
-abbrev pub is_of : List ℕ → List ℕ → Bool
-is_of id other = is_eq (text_cmp id other)
-
--- of these cells those of the message were kept
-pub record KeepsMessage (first message : OneMessage) (seen : Entries) : Type 0 where
-  pub id_is : message.id.now ≡ first.id.now
-  pub cells_are : message.cells ≡ part_of (is_of first.id.now) seen
 
 -- the site has the name and the live labels of this message that the document says
 abbrev pub IsReadFor : List ℕ → List ℕ → SiteState → Type 0

@@ -3,7 +3,7 @@ ghost use Rattle.std.specs.Prelude.{MatchResult, option_map};
 ghost use Rattle.json_docs.specs.FaultChecks.{OrMemory};
 ghost use Rattle.row_docs.specs.Reading.{IsOfDocument, no_memory};
 ghost use Rattle.site_docs.specs.Reading.{RefusesSite};
-ghost use Rattle.query_docs.specs.BundleByMessage.{HasBundled};
+ghost use Rattle.query_docs.specs.inner.BundleByMessage.{HasBundled};
 ghost use Rattle.query_docs.specs.Bundling.{IsBundledUnder};
 ghost use Rattle.nego_core.specs.Offer.{items_of};
 

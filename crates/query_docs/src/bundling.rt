@@ -1,6 +1,6 @@
 //! The labels of one reader: what a lookup answers for each message.
 ghost use Rattle.std.specs.Prelude.{◌≡◌, IfOk, List, MatchResult, option_map};
-ghost use Rattle.catalogue.specs.ReplyBorrowed.{lent_pair};
+ghost use Rattle.catalogue.specs.inner.ReplyBorrowed.{lent_pair};
 ghost use Rattle.catalogue.specs.Reply.{reply_of};
 ghost use Rattle.json_docs.specs.FaultChecks.{OrMemory};
 ghost use Rattle.row_docs.specs.Reading.{IsOfDocument, no_memory};

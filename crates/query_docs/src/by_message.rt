@@ -1,8 +1,8 @@
 //! Cells that are seen one after another, given on message by message.
 ghost use Rattle.std.specs.Prelude.{◌≡◌, ◌++◌, ◌∷◌, [], IfOk, OnOk, Some};
 ghost use Rattle.catalogue.specs.Entries.{Entries, Entry, IsAboveAll};
-ghost use Rattle.query_docs.specs.ByMessage.{AreLabelRefs, HasGiven, HasSeen, IsNextMessage};
-ghost use Rattle.query_docs.specs.ByMessage.{cells_of, entries_in, is_of};
+ghost use Rattle.query_docs.specs.inner.ByMessage.{AreLabelRefs, HasGiven, HasSeen, IsNextMessage};
+ghost use Rattle.query_docs.specs.inner.ByMessage.{cells_of, entries_in, is_of};
 
 use cell_core::{Key, MessageId, Stamp};
 use lang_core::Lang;

@@ -9,7 +9,7 @@ ghost use Rattle.map_docs.specs.WritingTexts.{AreWritten};
 ghost use Rattle.map_docs.specs.Maps.{Labelled};
 ghost use Rattle.map_docs.specs.WritingMaps.{opening_tokens};
 ghost use Rattle.site_docs.specs.Sink.{IsLabelRef, texts_of};
-ghost use Rattle.query_docs.specs.Draft.{HasWritten, labelled_by};
+ghost use Rattle.query_docs.specs.inner.Draft.{HasWritten, labelled_by};
 ghost use Rattle.query_docs.specs.Exporting.{live_labels};
 
 use cell_core::{Key, Label, MessageId};

@@ -5,13 +5,14 @@ ghost use Rattle.std.specs.Ordering.{is_eq};
 ghost use Rattle.std.specs.FinMap.Entries.{find};
 ghost use Rattle.cell_core.specs.KeyedFound.{with_key};
 ghost use Rattle.nego_core.specs.WidenedChoice.{MatchEarliest};
-ghost use Rattle.catalogue.specs.Asking.{IsChosenIn, IsLookedUpIn};
+ghost use Rattle.catalogue.specs.Asking.{IsLookedUpIn};
+ghost use Rattle.catalogue.specs.inner.Asking.{IsChosenIn};
 ghost use Rattle.cell_core.specs.Entry.{text_cmp};
 ghost use Rattle.catalogue.specs.Live.{is_live, languages};
 ghost use Rattle.catalogue.specs.declared.reply.Reply.{Reply};
 ghost use Rattle.site_docs.specs.Sink.{IsLabelRef, texts_of};
-ghost use Rattle.query_docs.specs.ByMessage.{AreLabelRefs};
-ghost use Rattle.query_docs.specs.LiveCells.{found_in, labels_of};
+ghost use Rattle.query_docs.specs.inner.ByMessage.{AreLabelRefs};
+ghost use Rattle.query_docs.specs.inner.LiveCells.{found_in, labels_of};
 ghost use Rattle.query_docs.specs.LiveCellsLookup.{answered};
 
 use crate::by_message::MessageCell;
@@ -77,7 +78,7 @@ impl<'c, 't> LiveCells<'c, 't> {
 
 impl Holds for LiveCells<'_, '_> {
     ghost use Rattle.catalogue.specs.Live.{is_live};
-    ghost use Rattle.query_docs.specs.LiveCells.{labels_of};
+    ghost use Rattle.query_docs.specs.inner.LiveCells.{labels_of};
 
     ghost held = { λ live. is_live (labels_of live.cells.now) };
 
@@ -88,7 +89,7 @@ impl Holds for LiveCells<'_, '_> {
 
 impl Languages for LiveCells<'_, '_> {
     ghost use Rattle.catalogue.specs.Live.{languages};
-    ghost use Rattle.query_docs.specs.LiveCells.{labels_of};
+    ghost use Rattle.query_docs.specs.inner.LiveCells.{labels_of};
 
     ghost texts = { λ live. languages (labels_of live.cells.now) };
 

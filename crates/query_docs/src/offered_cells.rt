@@ -1,5 +1,5 @@
 //! Cells that are seen one after another, of which those that are offered are passed on.
-ghost use Rattle.query_docs.specs.OfferedCells.{HasOffered};
+ghost use Rattle.query_docs.specs.inner.OfferedCells.{HasOffered};
 
 use nego_core::Offer;
 use site_docs::{CellRef, CellSink};

@@ -3,7 +3,8 @@ ghost use Rattle.std.specs.Prelude.{IfSome, MatchResult};
 ghost use Rattle.json_docs.specs.FaultChecks.{OrMemory};
 ghost use Rattle.row_docs.specs.Reading.{IsOfDocument, no_memory};
 ghost use Rattle.site_docs.specs.Reading.{RefusesSite};
-ghost use Rattle.query_docs.specs.OneMessage.{IsReadFor, KeepsMessage};
+ghost use Rattle.query_docs.specs.OneMessage.{IsReadFor};
+ghost use Rattle.query_docs.specs.inner.OneMessage.{KeepsMessage};
 
 use cata_core::{Catalogue, Site};
 use cell_core::MessageId;

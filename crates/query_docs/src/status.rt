@@ -7,7 +7,7 @@ ghost use Rattle.json_docs.specs.FaultChecks.{OrMemory};
 ghost use Rattle.row_docs.specs.Reading.{IsOfDocument, no_memory};
 ghost use Rattle.site_docs.specs.Reading.{RefusesSite};
 ghost use Rattle.site_docs.specs.Sink.{texts_of};
-ghost use Rattle.query_docs.specs.StatusCounts.{AreCounts};
+ghost use Rattle.query_docs.specs.inner.StatusCounts.{AreCounts};
 ghost use Rattle.query_docs.specs.Status.{IsStatus, counted_line, status_line};
 
 use cata_core::Site;

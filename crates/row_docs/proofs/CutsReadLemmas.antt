@@ -27,15 +27,16 @@ use Rattle.serde_json.specs.Read.{converted, number_of, of_items, of_json}
 use Rattle.serde_json.specs.View.{items_of}
 use Rattle.lang_core.proofs.Basics.{cases_bool, is_false, is_lt, lt_is}
 use Rattle.json_docs.specs.Numbers.{are_in_range}
-use Rattle.json_docs.specs.ObjectMembersRead.{ReadsMembers, ReadsNoMembers}
+use Rattle.json_docs.specs.inner.ObjectMembersRead.{ReadsMembers, ReadsNoMembers}
 use Rattle.json_docs.specs.Parts.{list_of}
-use Rattle.json_docs.specs.ScanningArrays.{ReadsItems, ReadsNoItems}
+use Rattle.json_docs.specs.inner.ScanningArrays.{ReadsItems, ReadsNoItems}
 use Rattle.json_docs.specs.ScanningReads.{AreRead, IsRead, Reads, data_of, seen}
 use Rattle.json_docs.proofs.ScanningReadableLemmas.{IsRead-in_range, Reads-in_range}
 use Rattle.json_docs.proofs.ScanningReadingLemmas.{converted-array, converted-object}
-use Rattle.row_docs.specs.Cuts.{are_texts, cut_to, fits, has_room, nothing}
-use Rattle.row_docs.specs.Cuts.{of_last, scalar_in, texts_among, texts_to}
-use Rattle.row_docs.specs.CutsSeen.{IsCut, IsNothing, Keeps, KeepsBy, KeepsItems, KeepsNone}
+use Rattle.row_docs.specs.Cuts.{are_texts, cut_to, fits, nothing, of_last, texts_among, texts_to}
+use Rattle.row_docs.specs.inner.Cuts.{has_room, scalar_in}
+use Rattle.row_docs.specs.CutsSeen.{IsCut}
+use Rattle.row_docs.specs.inner.CutsSeen.{IsNothing, Keeps, KeepsBy, KeepsItems, KeepsNone}
 use Rattle.row_docs.specs.declared.cuts.Cut.{Cut}
 use Rattle.row_docs.specs.declared.cuts.Kept.{Kept}
 use Rattle.row_docs.proofs.CutsLemmas.{are_texts-push}

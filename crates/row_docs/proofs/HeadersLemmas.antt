@@ -20,7 +20,7 @@ use Rattle.serde_json.proofs.Views.{get_member-put, get_member-put_other}
 use Rattle.json_docs.specs.FaultChecks.{Check}
 use Rattle.json_docs.specs.Parts.{items_in, u64_in}
 use Rattle.json_docs.specs.declared.fault.DocCause.{DocCause}
-use Rattle.row_docs.specs.HeaderSeen.{Shows, ShowsOthers, ShowsRows, is_text}
+use Rattle.row_docs.specs.inner.HeaderSeen.{Shows, ShowsOthers, ShowsRows, is_text}
 use Rattle.row_docs.specs.Headers.{IsSubject}
 use Rattle.row_docs.specs.Kinds.{kind_text, member_by, member_of, rows_of, subject_of}
 use Rattle.row_docs.specs.declared.header.Header.{Header}

@@ -29,8 +29,8 @@ use lib.Lanes.{chunk, mask_l, top, zip2}
 use Rattle.json.proofs.Printed.Plain.{escape_on_plain}
 use Rattle.json.specs.Print.{escape, escape_byte, escape_letter, quoted}
 use Rattle.json.specs.Run.{is_stop}
-use Rattle.row_docs.specs.PlainTexts.{IsDecimalFront, IsDigitAt, IsEscaped, IsFirstStop}
-use Rattle.row_docs.specs.PlainTexts.{IsPlainBefore}
+use Rattle.row_docs.specs.inner.PlainTexts.{IsDecimalFront, IsDigitAt, IsEscaped, IsFirstStop}
+use Rattle.row_docs.specs.inner.PlainTexts.{IsPlainBefore}
 
 -- ---- the mask of a block
 

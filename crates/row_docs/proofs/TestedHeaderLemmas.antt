@@ -15,11 +15,13 @@ use Rattle.json_docs.specs.ScanningArrays.{TakesRows}
 use Rattle.json_docs.specs.FaultChecks.{Check, FirstFails, OrMemory}
 use Rattle.row_docs.specs.Kinds.{is_among, kind_text, member_by, member_of, names_of, rows_of}
 use Rattle.row_docs.specs.Kinds.{subject_of}
-use Rattle.row_docs.specs.HeaderSeen.{Shows, ShowsRows, ShowsSubject, is_text}
+use Rattle.row_docs.specs.inner.HeaderSeen.{Shows, ShowsRows, ShowsSubject, is_text}
 use Rattle.row_docs.specs.Headers.{Begins, HasMembers, IsKnownVersion, IsSubject, header_checks}
 use Rattle.row_docs.specs.Headers.{kind_in, version_by}
-use Rattle.row_docs.specs.TestedHeaders.{HasHeader, RefusesHeader, RefusesText}
-use Rattle.row_docs.specs.HeaderTests.{FailsHeader, HasKnownVersion, IsWhole, PassesHeader, Starts}
+use Rattle.row_docs.specs.TestedHeaders.{HasHeader, RefusesHeader}
+use Rattle.row_docs.specs.inner.TestedHeaders.{RefusesText}
+use Rattle.row_docs.specs.inner.HeaderTests.{FailsHeader, HasKnownVersion, IsWhole, PassesHeader}
+use Rattle.row_docs.specs.inner.HeaderTests.{Starts}
 use Rattle.serde_json.specs.Read.{read}
 use Rattle.json_docs.specs.Parts.{items_in, u64_in}
 use Rattle.json_docs.specs.declared.fault.DocCause.{DocCause}

@@ -18,7 +18,8 @@ use Rattle.json.specs.Written.{Writes, Written}
 use Rattle.serde_json.specs.Data.{Data, array, string}
 use Rattle.serde_json.specs.View.{items_of}
 use Rattle.serde_json.specs.Written.{items_outline}
-use Rattle.row_docs.specs.WritingTexts.{Adds, row_tokens, text, value_tokens}
+use Rattle.row_docs.specs.WritingTexts.{Adds, text, value_tokens}
+use Rattle.row_docs.specs.inner.WritingTexts.{row_tokens}
 use Rattle.cell_core.specs.Label.{texts_of}
 
 -- what was added in two steps

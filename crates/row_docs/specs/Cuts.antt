@@ -1,11 +1,7 @@
 -- Values as far as a row may have them. Project rule.
-use Rattle.std.specs.Prelude.{ℕ, zero, suc, List, [], ◌∷◌, Bool, false, ◌||◌, ◌&&◌, nat_lt, length}
-use Rattle.std.specs.Prelude.{map, take, if◌then◌else◌, Option, None, Some, is_some, unwrap_or}
+use Rattle.std.specs.Prelude.{ℕ, zero, suc, List, [], ◌∷◌, Bool, false, ◌||◌, nat_lt, length, map}
+use Rattle.std.specs.Prelude.{take, if◌then◌else◌, is_some, unwrap_or}
 use Rattle.std.specs.List.{list_all}
-use Rattle.json.specs.Json as json
-use Rattle.json.specs.Json.{Json}
-use Rattle.json.specs.Token as token
-use Rattle.json.specs.Token.{Token}
 use Rattle.cell_core.specs.declared.fault.CellFault.TheVariants.{LabelCount}
 use Rattle.serde_json.specs.Data.{Data, null, boolean, number, string, array, object}
 use Rattle.serde_json.specs.Find.{as_str}
@@ -14,19 +10,6 @@ use Rattle.json_docs.specs.Parts.{items_in, list_of}
 use Rattle.json_docs.specs.declared.fault.DocCause.{DocCause}
 use Rattle.json_docs.specs.declared.fault.DocCause.TheVariants.{Field}
 use Rattle.json_docs.specs.declared.fault.FieldFault.TheVariants.{Cell}
-
--- the value that a token is by itself; none of any other token
-abbrev pub scalar_in : Token → Option Json
-scalar_in token.begin_object = None
-scalar_in token.end_object = None
-scalar_in token.begin_array = None
-scalar_in token.end_array = None
-scalar_in (token.key s) = None
-scalar_in (token.string s) = Some (json.string s)
-scalar_in (token.number s) = Some (json.number s)
-scalar_in (token.boolean b) = Some (json.boolean b)
-scalar_in token.null = Some json.null
-scalar_in token.bad = None
 
 -- ---- what is kept of a value
 
@@ -37,10 +20,6 @@ are_texts ds = list_all (λ d. is_some (as_str d)) ds
 -- whether an array of a row may have these items: at most six of any kind, or texts alone
 abbrev pub fits : List Data → Bool
 fits ds = nat_lt (length ds) 7 || are_texts ds
-
--- whether it may have one item more, after so many that are texts or not
-abbrev pub has_room : ℕ → Bool → Bool → Bool
-has_room count are_texts is_text = nat_lt count 6 || (are_texts && is_text)
 
 -- what no row has
 abbrev pub nothing : Data

@@ -1,11 +1,9 @@
 -- What was read of a document, and why it is refused before its rows. Project rule.
-use Rattle.std.specs.Prelude.{◌≡◌, ◌⊎◌, ℕ, List, [], None, Some}
+use Rattle.std.specs.Prelude.{◌≡◌, ℕ, List, []}
 use Rattle.serde_json.specs.Data.{Data}
-use Rattle.serde_json.specs.Read.{read}
 use Rattle.json_docs.specs.ScanningArrays.{TakesRows}
-use Rattle.json_docs.specs.FaultChecks.{AllPass, Check, FirstFails, IsRefusal}
+use Rattle.json_docs.specs.FaultChecks.{AllPass, Check, IsRefusal}
 use Rattle.json_docs.specs.declared.fault.DocCause.{DocCause}
-use Rattle.json_docs.specs.declared.fault.DocCause.TheVariants.{NotJson}
 use Rattle.row_docs.specs.Headers.{IsSubject, header_checks, rows_in, subject_data, version_of}
 use Rattle.row_docs.specs.declared.kind.Kind.{Kind}
 use Rattle.row_docs.specs.declared.tested_header.TestedHeader.{TestedHeader}
@@ -17,11 +15,6 @@ pub record HasHeader {S : Type 0} (kind : Kind) (checks : List Data → Data →
   pub version : tested.version ≡ version_of d
   pub subject : IsSubject tested.subject (subject_data kind d)
   pub taken : TakesRows checks Holds [] rows tested.refusal (rows_in kind d)
-
--- why the text is refused, which is UTF-8
-abbrev pub RefusesText : Kind → List ℕ → DocCause → Type 0
-RefusesText kind text e = ((e ≡ NotJson) × (read text ≡ None))
-    ⊎ ((d : Data) × (read text ≡ Some d) × FirstFails (header_checks kind d) e)
 
 -- why the bytes are refused before the rows are looked at
 abbrev pub RefusesHeader : Kind → List ℕ → DocCause → Type 0

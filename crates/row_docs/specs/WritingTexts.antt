@@ -18,11 +18,6 @@ IsOneLine bytes = (line : List ℕ) × (bytes ≡ line ++ 10 ∷ []) × All (λ 
 abbrev pub value_tokens : Data → List Token
 value_tokens d = json_tokens (outline d)
 
--- the tokens of some values, one after another
-abbrev pub row_tokens : List Data → List Token
-row_tokens [] = []
-row_tokens (d ∷ ds) = value_tokens d ++ row_tokens ds
-
 -- the draft grew by these tokens
 abbrev pub Adds : Written → Written → List Token → Type 0
 Adds old new tokens = (new.before ≡ old.before) × (new.tokens ≡ old.tokens ++ tokens)

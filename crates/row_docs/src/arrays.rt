@@ -2,10 +2,11 @@
 ghost use Rattle.std.specs.Prelude.{◌≡◌, ◌≢◌, ◌∷◌, [], ◌++◌, ◌<◌, ◌+◌, ◌≤◌, ◌^◌, ℕ, List, None};
 ghost use Rattle.std.specs.Prelude.{true, length, MatchResult, OnOk, IfErr};
 ghost use Rattle.serde_json.specs.Data.{Data, Items};
-ghost use Rattle.json_docs.specs.ScanningArrays.{ReadsItems, ReadsNoItems, TakesNext, TakesRows};
+ghost use Rattle.json_docs.specs.ScanningArrays.{TakesRows};
+ghost use Rattle.json_docs.specs.inner.ScanningArrays.{ReadsItems, ReadsNoItems, TakesNext};
 ghost use Rattle.json_docs.specs.FaultChecks.{AllPass, Check, FirstFails, OrMemory};
 ghost use Rattle.json_docs.specs.Numbers.{are_in_range};
-ghost use Rattle.json_docs.specs.ObjectMembersRead.{ReadsNone};
+ghost use Rattle.json_docs.specs.inner.ObjectMembersRead.{ReadsNone};
 ghost use Rattle.json_docs.specs.ScanningReads.{Reads};
 ghost use Rattle.json_docs.specs.Parts.{list_of};
 ghost use Rattle.json_docs.specs.declared.fault.DocCause.TheVariants.{NoMemory, NotJson};

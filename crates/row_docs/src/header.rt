@@ -4,14 +4,14 @@ ghost use Rattle.std.specs.Prelude.{MatchResult, OnOk};
 ghost use Rattle.serde_json.specs.Data.{Data, Members, put};
 ghost use Rattle.serde_json.specs.Find.{as_str};
 ghost use Rattle.json_docs.specs.FaultChecks.{OrMemory};
-ghost use Rattle.json_docs.specs.ObjectMembersRead.{ReadsMembers, ReadsNext, ReadsNoMembers};
-ghost use Rattle.json_docs.specs.ObjectMembersRead.{ReadsNone};
 ghost use Rattle.json_docs.specs.ObjectMembersRead.{is_scalar};
+ghost use Rattle.json_docs.specs.inner.ObjectMembersRead.{ReadsMembers, ReadsNext, ReadsNoMembers};
+ghost use Rattle.json_docs.specs.inner.ObjectMembersRead.{ReadsNone};
 ghost use Rattle.json_docs.specs.Numbers.{are_in_range};
 ghost use Rattle.json_docs.specs.ScanningReads.{seen};
 ghost use Rattle.json_docs.specs.Parts.{items_in, u64_in};
 ghost use Rattle.json_docs.specs.declared.fault.DocCause.TheVariants.{NoMemory, NotJson};
-ghost use Rattle.row_docs.specs.HeaderSeen.{Shows, ShowsRows, is_text};
+ghost use Rattle.row_docs.specs.inner.HeaderSeen.{Shows, ShowsRows, is_text};
 ghost use Rattle.row_docs.specs.Headers.{IsSubject};
 ghost use Rattle.row_docs.specs.Kinds.{kind_text, member_of};
 

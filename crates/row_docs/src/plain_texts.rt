@@ -12,8 +12,8 @@ ghost use Rattle.std.specs.Char.{digit_char};
 ghost use Rattle.std.specs.Simd.Lanes.{mask_l};
 ghost use Rattle.json.specs.Print.{escape, escape_byte, escape_letter, quoted};
 ghost use Rattle.json.specs.Run.{is_stop};
-ghost use Rattle.row_docs.specs.PlainTexts.{IsDecimalFront, IsDigitAt, IsEscaped, IsFirstStop};
-ghost use Rattle.row_docs.specs.PlainTexts.{IsPlainBefore};
+ghost use Rattle.row_docs.specs.inner.PlainTexts.{IsDecimalFront, IsDigitAt, IsEscaped};
+ghost use Rattle.row_docs.specs.inner.PlainTexts.{IsFirstStop, IsPlainBefore};
 
 use std::alloc::Global;
 use std::simd::prelude::*;

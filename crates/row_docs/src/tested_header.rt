@@ -6,12 +6,13 @@ ghost use Rattle.serde_json.specs.Data.{Data, Members, object};
 ghost use Rattle.serde_json.specs.Find.{as_object};
 ghost use Rattle.serde_json.specs.Read.{read};
 ghost use Rattle.json_docs.specs.FaultChecks.{AreJson, OrMemory};
-ghost use Rattle.json_docs.specs.ObjectMembersRead.{IsNotWhole, ReadsMembers};
+ghost use Rattle.json_docs.specs.inner.ObjectMembersRead.{IsNotWhole, ReadsMembers};
 ghost use Rattle.json_docs.specs.Numbers.{are_in_range};
 ghost use Rattle.json_docs.specs.declared.fault.DocCause.TheVariants.{NoMemory, NotJson};
-ghost use Rattle.row_docs.specs.HeaderSeen.{Shows};
-ghost use Rattle.row_docs.specs.HeaderTests.{FailsHeader, PassesHeader};
-ghost use Rattle.row_docs.specs.TestedHeaders.{HasHeader, RefusesHeader, RefusesText};
+ghost use Rattle.row_docs.specs.inner.HeaderSeen.{Shows};
+ghost use Rattle.row_docs.specs.inner.HeaderTests.{FailsHeader, PassesHeader};
+ghost use Rattle.row_docs.specs.TestedHeaders.{HasHeader, RefusesHeader};
+ghost use Rattle.row_docs.specs.inner.TestedHeaders.{RefusesText};
 
 use crate::arrays::Rows;
 use crate::header::{Header, Subject, Wanted, read_members};

@@ -8,7 +8,7 @@ ghost use Rattle.serde_json.specs.Data.{Data};
 ghost use Rattle.row_docs.specs.WritingTexts.{Adds, value_tokens};
 ghost use Rattle.row_docs.specs.EntriesValues.{cell_value, label_value, stamp_value, texts_value};
 ghost use Rattle.cell_core.specs.Label.{texts_of};
-ghost use Rattle.row_docs.specs.WritingSeen.{parts_tokens, row_of};
+ghost use Rattle.row_docs.specs.inner.WritingSeen.{parts_tokens, row_of};
 
 use json::Writer;
 use json_docs::Doc;

@@ -26,7 +26,8 @@ use Rattle.list_core.proofs.FieldElementLemmas.{range_is_extended}
 use Rattle.list_core.proofs.FieldSeparatorLemmas.{no_pieces}
 use Rattle.list_core.specs.Field.{IsElement, IsPadded, RangeGrammar, WeightGrammar}
 use Rattle.list_core.specs.Field.{ArePieces, IsField, RefusesField}
-use Rattle.list_core.specs.Item.{Item, item_eq, item_equiv}
+use Rattle.list_core.specs.Item.{Item, item_eq}
+use Rattle.list_core.specs.inner.Item.{item_equiv}
 use Rattle.list_core.specs.Weight.{HasWeight, IsQvalue, thousandths}
 use Rattle.list_core.specs.declared.fault.NegoFault.{NegoFault}
 use Rattle.list_core.specs.declared.fault.NegoFault.TheVariants.{FieldMalformed, FieldTooLong}

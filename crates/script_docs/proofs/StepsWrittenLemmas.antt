@@ -26,12 +26,12 @@ use Rattle.row_docs.specs.EntriesValid.{IsKeptCell}
 use Rattle.row_docs.specs.EntriesValues.{Row, cell_value}
 use Rattle.row_docs.specs.declared.version.Version.TheVariants.{Two}
 use Rattle.script_docs.specs.FieldWriting.{field_text}
-use Rattle.script_docs.specs.Writing.{AreRowsOf}
+use Rattle.script_docs.specs.inner.Writing.{AreRowsOf}
 use Rattle.script_docs.specs.StepFields.{AreSteps, Lists, default_checks, step_checks}
 use Rattle.script_docs.specs.Steps.{StepText, edit_step, merge_step, filter_step, lookup_step}
 use Rattle.script_docs.specs.Steps.{cells_step, tell_step, post_step, deliver_step, step_in}
-use Rattle.script_docs.specs.StepsWritten.{FitsMember, HasRoom, IsDefault, IsRowOf, IsWritableStep}
-use Rattle.script_docs.specs.StepsWritten.{step_row, step_value}
+use Rattle.script_docs.specs.StepsWritten.{FitsMember, IsWritableStep, step_row, step_value}
+use Rattle.script_docs.specs.inner.StepsWritten.{HasRoom, IsDefault, IsRowOf}
 use Rattle.json_docs.proofs.FaultChecksLemmas.{AllPass-both}
 use Rattle.row_docs.proofs.EntriesLowerLemmas.{lower-IsLang, spells-IsLang}
 use Rattle.row_docs.proofs.EntriesWrittenRows.{label_again, narrow}

@@ -17,18 +17,19 @@ use Rattle.serde_json.specs.Data.{Data}
 use Rattle.serde_json.proofs.Numbers.{number_of-decimal}
 use Rattle.json_docs.specs.FaultChecks.{AllPass, Check, rows_checks}
 use Rattle.json_docs.specs.declared.fault.DocCause.{DocCause}
-use Rattle.row_docs.specs.WritingEnvelope.{version_tokens}
+use Rattle.row_docs.specs.inner.WritingEnvelope.{version_tokens}
 use Rattle.row_docs.specs.Kinds.{names_of}
 use Rattle.row_docs.specs.Headers.{HasJust, header_checks, rows_in, subject_data, version_of}
 use Rattle.row_docs.specs.WritingTexts.{Adds, text, value_tokens}
 use Rattle.row_docs.specs.declared.kind.Kind.TheVariants.{Script}
 use Rattle.script_docs.specs.Reading.{ReadsAsScript, sites_check}
-use Rattle.script_docs.specs.Writing.{AreRowsOf, HasRows, HoldsSteps, IsFirstUnwritable}
-use Rattle.script_docs.specs.Writing.{RefusesWriting, script_value}
+use Rattle.script_docs.specs.Writing.{IsFirstUnwritable, RefusesWriting, script_value}
+use Rattle.script_docs.specs.inner.Writing.{AreRowsOf, HasRows, HoldsSteps}
 use Rattle.script_docs.specs.Scripts.{IsSiteCount, ScriptState}
 use Rattle.script_docs.specs.StepFields.{step_checks}
 use Rattle.script_docs.specs.Steps.{StepText}
-use Rattle.script_docs.specs.StepsWritten.{IsWritableStep, RefusesStep, WritesStep, step_value}
+use Rattle.script_docs.specs.StepsWritten.{IsWritableStep, step_value}
+use Rattle.script_docs.specs.inner.StepsWritten.{RefusesStep, WritesStep}
 use Rattle.json_docs.proofs.FaultChecksLemmas.{AllPass-both}
 use Rattle.row_docs.proofs.HeadersLemmas.{in_turn, some_member}
 use Rattle.row_docs.proofs.WritingTextsLemmas.{printed, row_tokens-push, rows_member}

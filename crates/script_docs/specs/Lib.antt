@@ -4,6 +4,6 @@ pub mod Scripts
 pub mod ScriptsMigration
 pub mod StepFields
 pub mod Steps
-pub mod StepsSeen
 pub mod StepsWritten
 pub mod Writing
+pub mod inner

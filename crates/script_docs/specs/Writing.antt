@@ -1,11 +1,7 @@
 -- Documents of scripts, written. Project rule: the members of an object are in byte order of their
 -- names.
-use Rattle.std.specs.Prelude.{◌≡◌, ℕ, List, [], ◌∷◌, codes, decimal, map, take, All, Some}
-use Rattle.std.specs.Prelude.{slice_get}
+use Rattle.std.specs.Prelude.{◌≡◌, ℕ, List, codes, map, take, All, Some, slice_get}
 use Rattle.cata_core.specs.declared.step.Step.{Step}
-use Rattle.json.specs.Token.{begin_object, begin_array, key, number as number_token}
-use Rattle.json.specs.Token.{string as string_token}
-use Rattle.json.specs.Written.{Written}
 use Rattle.serde_json.specs.Data.{Data, object, array, number, unsigned, string, no_members, member}
 use Rattle.serde_json.specs.View.{items_of}
 use Rattle.json_docs.specs.FaultChecks.{OrMemory}
@@ -13,11 +9,10 @@ use Rattle.json_docs.specs.Faults.{of_no_document}
 use Rattle.json_docs.specs.declared.fault.DocCause.{DocCause}
 use Rattle.json_docs.specs.declared.fault.DocCause.TheVariants.{NoMemory, Shape}
 use Rattle.json_docs.specs.declared.fault.DocFault.{DocFault}
-use Rattle.row_docs.specs.WritingTexts.{row_tokens, text}
+use Rattle.row_docs.specs.WritingTexts.{text}
 use Rattle.script_docs.specs.Reading.{ReadsAsScript}
 use Rattle.script_docs.specs.Scripts.{ScriptState}
-use Rattle.script_docs.specs.Steps.{StepText}
-use Rattle.script_docs.specs.StepsWritten.{IsRowOf, IsWritableStep, step_row, step_value}
+use Rattle.script_docs.specs.StepsWritten.{IsWritableStep, step_row}
 use Rattle.json_docs.specs.declared.fault.Spot.TheVariants as spot
 
 -- the first step that no document can have
@@ -52,23 +47,3 @@ script_value sites rows = object
 abbrev pub IsScriptText : ScriptState → List ℕ → Type 0
 IsScriptText script doc =
     (doc ≡ text (script_value script.sites (map step_row script.steps))) × ReadsAsScript doc script
-
--- a script's draft with this number of sites: it is open after these rows
-abbrev pub HoldsSteps : Written → ℕ → List Data → Type 0
-HoldsSteps draft sites rows =
-    (draft.before ≡ [])
-    × (draft.tokens
-    ≡ begin_object ∷ key (codes "kind") ∷ string_token (codes "script") ∷ key (codes "sites")
-    ∷ number_token (decimal sites) ∷ key (codes "steps") ∷ begin_array ∷ row_tokens rows)
-
--- each text is that of the step at its place
-abbrev pub AreRowsOf : List StepText → List Step → Type 0
-AreRowsOf [] [] = Unit {0}
-AreRowsOf [] (step ∷ steps) = ⊥
-AreRowsOf (text ∷ texts) [] = ⊥
-AreRowsOf (text ∷ texts) (step ∷ steps) = IsRowOf text step × AreRowsOf texts steps
-
--- a script's draft has a row for each of these steps
-abbrev pub HasRows : Written → ℕ → List Step → Type 0
-HasRows draft sites steps =
-    (texts : List StepText) × AreRowsOf texts steps × HoldsSteps draft sites (map step_value texts)

@@ -7,7 +7,7 @@ ghost use Rattle.row_docs.specs.ShapesRowsSeen.{AreTextsOf, cell_of};
 ghost use Rattle.script_docs.specs.StepFields.{IsListRefusal, Lists, Makes, default_checks};
 ghost use Rattle.script_docs.specs.StepFields.{step_fields};
 ghost use Rattle.script_docs.specs.Steps.{edit_step, filter_step, lookup_step};
-ghost use Rattle.script_docs.specs.StepsSeen.{HasTexts, text_of};
+ghost use Rattle.script_docs.specs.inner.StepsSeen.{HasTexts, text_of};
 
 use crate::steps::StepRow;
 use cata_core::{Edit, Step};

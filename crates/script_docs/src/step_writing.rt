@@ -8,10 +8,11 @@ ghost use Rattle.json_docs.specs.declared.fault.DocCause.TheVariants.{Shape};
 ghost use Rattle.row_docs.specs.Entries.{row_of};
 ghost use Rattle.row_docs.specs.WritingTexts.{Adds, value_tokens};
 ghost use Rattle.row_docs.specs.EntriesValid.{IsKeptCell};
-ghost use Rattle.script_docs.specs.StepsWritten.{FitsMember, IsDefault, RefusesRow, RefusesStep};
-ghost use Rattle.script_docs.specs.StepsWritten.{WritesStep, edit_value, filter_value};
+ghost use Rattle.script_docs.specs.StepsWritten.{FitsMember, edit_value, filter_value};
 ghost use Rattle.script_docs.specs.StepsWritten.{lookup_value, pair_value, scheme_text};
 ghost use Rattle.script_docs.specs.StepsWritten.{single_value};
+ghost use Rattle.script_docs.specs.inner.StepsWritten.{IsDefault, RefusesRow, RefusesStep};
+ghost use Rattle.script_docs.specs.inner.StepsWritten.{WritesStep};
 ghost use Rattle.json_docs.specs.declared.fault.Spot.TheVariants as spot;
 
 use crate::field_writing::field_of;

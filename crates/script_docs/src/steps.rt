@@ -4,7 +4,7 @@ ghost use Rattle.json.specs.Value.{value_view};
 ghost use Rattle.json_docs.specs.ScanningReads.{AreRead, IsRead, seen};
 ghost use Rattle.script_docs.specs.Steps.{StepText, default_in, edit_of, filter_of, lookup_of};
 ghost use Rattle.script_docs.specs.Steps.{one_of, scheme_of, step_after, step_in, two_of, word_of};
-ghost use Rattle.script_docs.specs.StepsSeen.{HasTexts, text_of};
+ghost use Rattle.script_docs.specs.inner.StepsSeen.{HasTexts, text_of};
 
 use json::Value;
 use json_docs::{items_of, text_of, u32_of};

@@ -2,10 +2,10 @@
 ghost use Rattle.std.specs.Prelude.{◌≡◌, ◌∷◌, [], ℕ, List, IfErr, IfOk, IsUtf8, MatchResult, OnOk};
 ghost use Rattle.json.specs.Token.{end_array};
 ghost use Rattle.serde_json.specs.Data.{Data};
-ghost use Rattle.row_docs.specs.WritingEnvelope.{version_tokens};
+ghost use Rattle.row_docs.specs.inner.WritingEnvelope.{version_tokens};
 ghost use Rattle.row_docs.specs.WritingTexts.{Adds, text};
-ghost use Rattle.script_docs.specs.Writing.{HasRows, HoldsSteps, IsOfNone, IsScriptText};
-ghost use Rattle.script_docs.specs.Writing.{RefusesWriting, script_value};
+ghost use Rattle.script_docs.specs.Writing.{IsOfNone, IsScriptText, RefusesWriting, script_value};
+ghost use Rattle.script_docs.specs.inner.Writing.{HasRows, HoldsSteps};
 ghost use Rattle.script_docs.specs.Scripts.{IsSiteCount};
 
 use crate::scripts::Script;

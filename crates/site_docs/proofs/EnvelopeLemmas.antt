@@ -16,8 +16,9 @@ use Rattle.row_docs.specs.Kinds.{kind_text, subject_of}
 use Rattle.row_docs.specs.WritingTexts.{text}
 use Rattle.row_docs.specs.declared.kind.Kind.{Kind}
 use Rattle.row_docs.specs.declared.kind.Kind.TheVariants.{Delta, Site}
-use Rattle.site_docs.specs.Envelope.{IsFront, IsStampsFront, cells_opening, end_text, stamps_end}
-use Rattle.site_docs.specs.Envelope.{stamps_opening}
+use Rattle.site_docs.specs.Envelope.{cells_opening}
+use Rattle.site_docs.specs.inner.Envelope.{IsFront, IsStampsFront, end_text, stamps_end}
+use Rattle.site_docs.specs.inner.Envelope.{stamps_opening}
 use Rattle.site_docs.specs.Documents.{delta_text, site_text, summary_text}
 use Rattle.site_docs.specs.Plain.{cells_document, last_members, open_items}
 use Rattle.site_docs.specs.Reading.{IsDeltaText, IsSiteText, IsSummaryText, ReadsAsDelta}

@@ -17,14 +17,16 @@ use Rattle.serde_json.specs.Data.{Data, array, string}
 use Rattle.serde_json.specs.View.{items_of}
 use Rattle.serde_json.specs.Written.{comma_if, compact_text, items_text}
 use Rattle.cell_core.specs.SiteName.{IsSiteName}
-use Rattle.cell_core.specs.Entry.{EntryKey, key_cmp, key_cmp_total}
+use Rattle.cell_core.specs.Entry.{EntryKey, key_cmp}
+use Rattle.cell_core.specs.inner.Entry.{key_cmp_total}
 use Rattle.catalogue.specs.Entries.{Entries, Entry, IsAboveAll}
 use Rattle.catalogue.proofs.CatalogueAboveLemmas.{IsMap-behind}
 use Rattle.row_docs.specs.Entries.{cells_values, entry_value}
 use Rattle.row_docs.specs.Kinds.{kind_text, subject_of}
-use Rattle.site_docs.specs.Plain.{IsEnd, IsPlainText, IsTextOf, cells_document}
-use Rattle.site_docs.specs.Plain.{is_later, last_members, open_items, rows_text}
-use Rattle.site_docs.specs.PlainRows.{IsLastOf, row_before, row_until}
+use Rattle.site_docs.specs.Plain.{IsEnd, IsPlainText, IsTextOf, cells_document, is_later}
+use Rattle.site_docs.specs.Plain.{last_members, open_items}
+use Rattle.site_docs.specs.inner.Plain.{rows_text}
+use Rattle.site_docs.specs.inner.PlainRows.{IsLastOf, row_before, row_until}
 use Rattle.row_docs.specs.EntriesValid.{AreKeptCells, IsKeptCell}
 use Rattle.row_docs.specs.EntriesValues.{Row, cell_value, label_value, stamp_value}
 use Rattle.row_docs.specs.declared.kind.Kind.{Kind}

@@ -18,8 +18,8 @@ use Rattle.row_docs.specs.WritingTexts.{text}
 use Rattle.row_docs.specs.EntriesValid.{AreKeptStamps, IsKeptStamp}
 use Rattle.row_docs.specs.EntriesValues.{Row, stamp_value}
 use Rattle.site_docs.specs.Plain.{IsEnd, is_later, open_items}
-use Rattle.site_docs.specs.PlainRows.{row_until}
-use Rattle.site_docs.specs.PlainStamps.{stamps_text}
+use Rattle.site_docs.specs.inner.PlainRows.{row_until}
+use Rattle.site_docs.specs.inner.PlainStamps.{stamps_text}
 use Rattle.site_docs.specs.Reading.{ReadsAsSummary}
 use Rattle.site_docs.specs.DocumentsValues.{summary_value}
 use Rattle.cata_core.specs.Summary.{SummaryState}

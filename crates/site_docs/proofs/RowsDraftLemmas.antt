@@ -11,7 +11,8 @@ use Rattle.cell_core.specs.Entry.{key_cmp}
 use Rattle.catalogue.specs.Entries.{Entries, Entry}
 use Rattle.row_docs.specs.Entries.{cells_values, entry_value}
 use Rattle.row_docs.specs.EntriesValid.{IsKeptCell}
-use Rattle.site_docs.specs.Envelope.{IsFront, cells_opening}
+use Rattle.site_docs.specs.Envelope.{cells_opening}
+use Rattle.site_docs.specs.inner.Envelope.{IsFront}
 use Rattle.site_docs.specs.OpenRows.{HoldsOpen}
 use Rattle.site_docs.specs.Plain.{open_items}
 use Rattle.site_docs.specs.RowsDraft.{HoldsRows}

@@ -10,7 +10,7 @@ use Rattle.row_docs.specs.Fields.{IsAfter}
 use Rattle.row_docs.specs.Ascending.{entry_in}
 use Rattle.row_docs.specs.declared.version.Version.{Version}
 use Rattle.row_docs.proofs.AscendingLemmas.{MakesEntries-push, after_last}
-use Rattle.site_docs.specs.ShownRows.{HoldsShown, key_of}
+use Rattle.site_docs.specs.inner.ShownRows.{HoldsShown, key_of}
 use Rattle.site_docs.specs.declared.document.shown_rows.ShownRows.{ShownRows}
 
 at_end : (es : Entries) (e : Entry) → slice_get (es ++ e ∷ []) (length es) ≡ Some e

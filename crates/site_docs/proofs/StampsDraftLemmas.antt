@@ -8,9 +8,9 @@ use Rattle.cell_core.specs.Entry.{EntryKey, key_cmp}
 use Rattle.catalogue.specs.Entries.{Entries, Entry}
 use Rattle.row_docs.specs.Entries.{stamped_value, stamps_values}
 use Rattle.row_docs.specs.EntriesValid.{IsKeptStamp}
-use Rattle.site_docs.specs.Envelope.{IsStampsFront, stamps_opening}
+use Rattle.site_docs.specs.inner.Envelope.{IsStampsFront, stamps_opening}
 use Rattle.site_docs.specs.OpenRows.{HoldsOpen}
-use Rattle.site_docs.specs.StampsDraft.{HoldsStamps}
+use Rattle.site_docs.specs.inner.StampsDraft.{HoldsStamps}
 use Rattle.site_docs.specs.declared.stamps_draft.StampsDraft.{StampsDraft}
 use Rattle.site_docs.proofs.DocumentsLemmas.{kept_more}
 use Rattle.site_docs.proofs.OpenRowsLemmas.{open_utf8}

@@ -16,7 +16,8 @@ use Rattle.row_docs.specs.Fields.{IsAfter}
 use Rattle.row_docs.specs.Kinds.{kind_text, subject_of}
 use Rattle.row_docs.specs.declared.kind.Kind.TheVariants.{Site}
 use Rattle.site_docs.specs.Plain.{IsEnd, is_later, last_members, open_items}
-use Rattle.site_docs.specs.PlainRows.{IsLastOf, key_in}
+use Rattle.site_docs.specs.PlainRows.{key_in}
+use Rattle.site_docs.specs.inner.PlainRows.{IsLastOf}
 use Rattle.site_docs.specs.Reading.{ReadsAsSite}
 use Rattle.site_docs.specs.WrittenRows.{HasRead, IsLastRead, IsRead, current_of, entry_at}
 use Rattle.site_docs.specs.WrittenRows.{left_in}

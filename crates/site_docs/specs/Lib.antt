@@ -6,13 +6,10 @@ pub mod Envelope
 pub mod OpenRows
 pub mod Plain
 pub mod PlainRows
-pub mod PlainStamps
 pub mod Reading
 pub mod RowsDraft
 pub mod RowsInTime
-pub mod ShownRows
 pub mod Sink
 pub mod SiteDocuments
-pub mod StampsDraft
-pub mod Unread
 pub mod WrittenRows
+pub mod inner

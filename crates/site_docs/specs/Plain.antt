@@ -1,7 +1,7 @@
 -- Documents in the form in which they are written, and texts that begin with a part of one.
 -- Project rule.
-use Rattle.std.specs.Prelude.{◌≡◌, ◌⊎◌, ◌+◌, ◌++◌, ◌∷◌, [], ℕ, List, Bool, true, false}
-use Rattle.std.specs.Prelude.{IsUtf8, codes, decimal}
+use Rattle.std.specs.Prelude.{◌≡◌, ◌⊎◌, ◌++◌, ◌∷◌, [], ℕ, List, Bool, true, false, IsUtf8, codes}
+use Rattle.std.specs.Prelude.{decimal}
 use Rattle.json.specs.Print.{quoted}
 use Rattle.serde_json.specs.Data.{Data, array, member, no_members, number, object, string}
 use Rattle.serde_json.specs.Data.{unsigned}
@@ -37,10 +37,6 @@ pub record IsPlainText (kind : Kind) (bytes name : List ℕ) (cells : Entries) :
 
 -- ---- parts of such a text
 
--- the array of the rows
-abbrev pub rows_text : Entries → List ℕ
-rows_text cells = compact_text (array (items_of (cells_values cells)))
-
 -- whether an item after these is a later one, and no first
 abbrev pub is_later : {X : Type 0} → List X → Bool
 is_later [] = false
@@ -62,5 +58,3 @@ last_members kind subject name end =
     (quoted kind ++ 44 ∷
     (quoted subject ++ 58 ∷
     (quoted name ++ 44 ∷ (quoted (codes "version") ++ 58 ∷ (decimal 2 ++ end))))))
-
--- ---- strings

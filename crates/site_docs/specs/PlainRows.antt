@@ -1,13 +1,11 @@
 -- Rows as they are written, and what their texts spell.
-use Rattle.std.specs.Prelude.{◌≡◌, ◌++◌, ◌∷◌, ℕ, List, Option, decimal, string_bytes}
-use Rattle.json.specs.Print.{quoted}
+use Rattle.std.specs.Prelude.{◌≡◌, ℕ, List, Option, string_bytes}
 use Rattle.cell_core.specs.MessageId.{IsMessageId}
 use Rattle.cell_core.specs.SiteName.{IsSiteName}
 use Rattle.lang_core.specs.Lang.{IsLang}
-use Rattle.cell_core.specs.declared.stamp.Stamp.{Stamp}
 use Rattle.cell_core.specs.Entry.{EntryKey}
-use Rattle.catalogue.specs.Entries.{Entry, IsAboveAll}
-use Rattle.row_docs.specs.Fields.{IsAfter, stamp_of}
+use Rattle.catalogue.specs.Entries.{Entry}
+use Rattle.row_docs.specs.Fields.{stamp_of}
 use Rattle.row_docs.specs.EntriesValues.{Row}
 use Rattle.site_docs.specs.declared.plain.rows.Front.{Front}
 use Rattle.site_docs.specs.declared.plain.rows.IdText.{IdText}
@@ -45,22 +43,3 @@ pub record IsSpelled (row : Spelled) : Type 0 where
   pub is_id : IsMessageId (text_in row.front.id)
   pub is_lang : IsLang row.front.language.now
   pub is_site : IsSiteName row.front.site.now
-
--- a key that is greater than the last one is greater than all these
-abbrev pub IsLastOf : {J : Type 0} → Option EntryKey → List (EntryKey × J) → Type 0
-IsLastOf last cells = (key : EntryKey) → IsAfter last key → IsAboveAll key cells
-
--- a row as far as its count, the byte at its end, and what comes after
-abbrev pub row_until : ℕ → Row → List ℕ → List ℕ
-row_until end row rest =
-    91 ∷ (quoted row.id ++ 44 ∷
-    (quoted row.language ++ 44 ∷
-    (decimal row.time ++ 44 ∷ (quoted row.site ++ 44 ∷ (decimal row.count ++ end ∷ rest)))))
-
--- a row as far as its label, and what comes after
-abbrev pub row_before : Row → List ℕ → List ℕ
-row_before = row_until 44
-
--- the key and the stamp of a row
-abbrev pub stamped_in : Front → EntryKey × Stamp
-stamped_in front = (key_in front, stamp_of (row_in front))

@@ -4,7 +4,7 @@ ghost use Rattle.cell_core.specs.Keyed.{IsMap};
 ghost use Rattle.cata_core.specs.Delta.{Stamps, summary_of};
 ghost use Rattle.cell_core.specs.Entry.{key_cmp};
 ghost use Rattle.site_docs.specs.Reading.{IsSummaryText};
-ghost use Rattle.site_docs.specs.StampsDraft.{HoldsStamps};
+ghost use Rattle.site_docs.specs.inner.StampsDraft.{HoldsStamps};
 ghost use Rattle.site_docs.specs.declared.sink.RowText.{RowText};
 
 use crate::document::envelope::{closed_summary, open_stamps};

@@ -7,7 +7,7 @@ use Rattle.cell_core.specs.Keyed.{IsMap}
 use Rattle.cell_core.specs.Entry.{EntryKey, key_cmp}
 use Rattle.cata_core.proofs.SummaryListsLemmas.{first_absent, first_found, not_greater}
 use Rattle.cata_core.proofs.SummaryListsLemmas.{not_greater_self, passed, passed_found}
-use Rattle.summary_docs.specs.LackedRows.{IsPassed}
+use Rattle.summary_docs.specs.inner.LackedRows.{IsPassed}
 
 module _ {V : Type 0} (all left : List (EntryKey × V)) (key k : EntryKey) (v : V)
     (rest : List (EntryKey × V)) (there : left ≡ (k, v) ∷ rest) (map : IsMap key_cmp left)

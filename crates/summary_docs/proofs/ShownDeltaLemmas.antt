@@ -20,12 +20,13 @@ use Rattle.lang_core.proofs.Basics.{not_false}
 use Rattle.cell_core.specs.declared.cell.Cell.{Cell}
 use Rattle.cell_core.specs.declared.stamp.Stamp.{Stamp}
 use Rattle.cell_core.specs.Stamp.{stamp_cmp}
-use Rattle.cell_core.specs.Cell.{AgreeCells, cell_laws, joined_cells, stamp_cmp_exact}
-use Rattle.cell_core.specs.Cell.{stamp_cmp_total}
+use Rattle.cell_core.specs.Cell.{AgreeCells, joined_cells}
+use Rattle.cell_core.specs.inner.Cell.{cell_laws, stamp_cmp_exact, stamp_cmp_total}
 use Rattle.cell_core.specs.Keyed.{AgreeIfBoth, IsMap, joined_if_both}
-use Rattle.cell_core.specs.KeyedLaws.{also_map, at_of, find-joined_maps, joined_maps-IsMap}
-use Rattle.cell_core.specs.KeyedLaws.{same_maps}
-use Rattle.cell_core.specs.Entry.{EntryKey, key_cmp, key_cmp_exact, key_cmp_total}
+use Rattle.cell_core.specs.inner.KeyedLaws.{also_map, at_of, find-joined_maps, joined_maps-IsMap}
+use Rattle.cell_core.specs.inner.KeyedLaws.{same_maps}
+use Rattle.cell_core.specs.Entry.{EntryKey, key_cmp}
+use Rattle.cell_core.specs.inner.Entry.{key_cmp_exact, key_cmp_total}
 use Rattle.catalogue.specs.CataFault.{IsRefusal}
 use Rattle.catalogue.specs.Clash.{IsFirstClash}
 use Rattle.catalogue.specs.Entries.{Agree, Entries, Entry, joined}

@@ -29,8 +29,9 @@ use Rattle.row_docs.specs.EntriesValid.{AreKeptStamps, IsKeptStamp}
 use Rattle.row_docs.specs.EntriesValues.{texts_value}
 use Rattle.row_docs.specs.Headers.{HasJust, header_checks, rows_in, subject_data, version_of}
 use Rattle.row_docs.specs.Kinds.{names_of}
-use Rattle.row_docs.specs.WritingEnvelope.{version_tokens}
-use Rattle.row_docs.specs.WritingTexts.{Adds, row_tokens, text, value_tokens}
+use Rattle.row_docs.specs.inner.WritingEnvelope.{version_tokens}
+use Rattle.row_docs.specs.WritingTexts.{Adds, text, value_tokens}
+use Rattle.row_docs.specs.inner.WritingTexts.{row_tokens}
 use Rattle.row_docs.specs.declared.kind.Kind.TheVariants.{Summary}
 use Rattle.row_docs.proofs.EntriesWrittenRows.{list_of-items_of, stamps_again, stamps_pass}
 use Rattle.row_docs.proofs.EntriesWrittenTexts.{label_written, read-text, stamps_written}
@@ -41,7 +42,8 @@ use Rattle.site_docs.specs.DocumentsValues.{summary_value}
 use Rattle.site_docs.specs.SiteDocuments.{IsSummaryDocument, subject_checks, summary_checks}
 use Rattle.summary_docs.specs.Reading.{HasDigests, ReadsAsShown, digest_in, is_digest}
 use Rattle.summary_docs.specs.Shown.{ShownState}
-use Rattle.summary_docs.specs.Writing.{labels_opening, shown_text, shown_value}
+use Rattle.summary_docs.specs.Writing.{shown_text, shown_value}
+use Rattle.summary_docs.specs.inner.Writing.{labels_opening}
 
 -- ---- the tokens
 

@@ -1,17 +1,11 @@
 -- The rows of a site that a summary lacks.
 use Rattle.std.specs.Prelude.{◌≡◌, List, drop}
-use Rattle.std.specs.declared.cmp.Ordering.TheVariants.{Less}
 use Rattle.std.specs.FinMap.Entries.{find}
 use Rattle.cell_core.specs.Entry.{EntryKey, key_cmp}
 use Rattle.catalogue.specs.Entries.{Entries, IsAboveAll}
 use Rattle.site_docs.specs.RowsDraft.{HoldsRows}
 use Rattle.summary_docs.specs.Shown.{KnownCell, known_in, lacked_of}
 use Rattle.summary_docs.specs.declared.lacked_rows.LackedRows.{LackedRows}
-
--- what is left of a list has what all of it has of each key that is greater than this one
-abbrev pub IsPassed : {V : Type 0} → EntryKey → List (EntryKey × V) → List (EntryKey × V) → Type 0
-IsPassed key all left =
-    (q : EntryKey) → key_cmp key q ≡ Less → find key_cmp q left ≡ find key_cmp q all
 
 -- the rows of the cells that are lacked by what is known; what is left has what all has of each key
 -- that is greater than the cells'

@@ -2,5 +2,5 @@ pub mod Digest
 pub mod LackedRows
 pub mod Reading
 pub mod Shown
-pub mod ShownCells
 pub mod Writing
+pub mod inner

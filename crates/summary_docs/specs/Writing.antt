@@ -1,13 +1,11 @@
 -- The text of the document of a summary that shows labels, version 2. Project rule: the members of
 -- an object are in byte order of their names.
-use Rattle.std.specs.Prelude.{◌≡◌, ◌++◌, ℕ, List, [], ◌∷◌, codes}
-use Rattle.json.specs.Token.{Token, begin_array, begin_object, key}
-use Rattle.json.specs.Token as token
+use Rattle.std.specs.Prelude.{◌≡◌, ℕ, List, codes}
 use Rattle.serde_json.specs.Data.{Data, object, array, number, unsigned, string, no_members, member}
 use Rattle.serde_json.specs.View.{items_of}
 use Rattle.row_docs.specs.Entries.{stamps_values}
 use Rattle.row_docs.specs.EntriesValues.{texts_value}
-use Rattle.row_docs.specs.WritingTexts.{text, value_tokens}
+use Rattle.row_docs.specs.WritingTexts.{text}
 use Rattle.cata_core.specs.Delta.{summary_of}
 use Rattle.cata_core.specs.Site.{SiteState}
 use Rattle.site_docs.specs.Reading.{IsSummaryText}
@@ -39,18 +37,3 @@ abbrev pub IsSummaryBy : Shows → SiteState → List ℕ → Type 0
 IsSummaryBy Stamps site =
     IsSummaryText (record { owner = site.name; stamps = summary_of site.cells })
 IsSummaryBy Labels site = IsShownText (shown_of site.name site.cells)
-
--- `{"kind":"summary","labels":`
-abbrev pub kind_opening : List Token
-kind_opening =
-    begin_object ∷ key (codes "kind") ∷ token.string (codes "summary") ∷ key (codes "labels") ∷ []
-
--- `"owner":NAME,"stamps":[`
-abbrev pub stamps_opening : List ℕ → List Token
-stamps_opening owner =
-    key (codes "owner") ∷ token.string owner ∷ key (codes "stamps") ∷ begin_array ∷ []
-
--- `{"kind":"summary","labels":[DIGEST,..],"owner":NAME,"stamps":[`
-abbrev pub labels_opening : List ℕ → List (List ℕ) → List Token
-labels_opening owner digests =
-    kind_opening ++ (value_tokens (texts_value digests) ++ stamps_opening owner)

@@ -7,10 +7,11 @@ ghost use Rattle.catalogue.specs.Entries.{Entries};
 ghost use Rattle.site_docs.specs.Reading.{IsDeltaText};
 ghost use Rattle.site_docs.specs.RowsDraft.{HoldsRows};
 ghost use Rattle.site_docs.specs.Sink.{IsLabelRef, IsRowOf, entry_of, texts_of};
-ghost use Rattle.summary_docs.specs.LackedRows.{HoldsLacked, IsPassed};
+ghost use Rattle.summary_docs.specs.LackedRows.{HoldsLacked};
+ghost use Rattle.summary_docs.specs.inner.LackedRows.{IsPassed};
 ghost use Rattle.summary_docs.specs.Shown.{KnownCell, is_lacked, is_of_another, known_in};
 ghost use Rattle.summary_docs.specs.Shown.{lacked_of};
-ghost use Rattle.summary_docs.specs.ShownCells.{known_as};
+ghost use Rattle.summary_docs.specs.inner.ShownCells.{known_as};
 
 use crate::digest::digest_of;
 use crate::shown::{Known, ShownSummary};

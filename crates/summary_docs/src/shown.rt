@@ -40,7 +40,7 @@ impl Model for ShownSummary {
 
 impl ShownSummary {
     ghost use Rattle.cell_core.specs.Label.{texts_of};
-    ghost use Rattle.summary_docs.specs.ShownCells.{known_as};
+    ghost use Rattle.summary_docs.specs.inner.ShownCells.{known_as};
 
     /// A summary with these digests. Without any it shows no labels.
     pub(crate) fn new(summary: Summary, digests: Vec<String>) -> ShownSummary

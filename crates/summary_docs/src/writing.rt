@@ -6,11 +6,12 @@ ghost use Rattle.cell_core.specs.Label.{texts_of};
 ghost use Rattle.cell_core.specs.SiteName.{IsSiteName};
 ghost use Rattle.row_docs.specs.Entries.{stamps_values};
 ghost use Rattle.row_docs.specs.EntriesValid.{AreKeptStamps};
-ghost use Rattle.row_docs.specs.WritingEnvelope.{version_tokens};
-ghost use Rattle.row_docs.specs.WritingTexts.{Adds, row_tokens};
+ghost use Rattle.row_docs.specs.inner.WritingEnvelope.{version_tokens};
+ghost use Rattle.row_docs.specs.WritingTexts.{Adds};
+ghost use Rattle.row_docs.specs.inner.WritingTexts.{row_tokens};
 ghost use Rattle.summary_docs.specs.Reading.{is_digest};
-ghost use Rattle.summary_docs.specs.Writing.{IsShownText, kind_opening, labels_opening};
-ghost use Rattle.summary_docs.specs.Writing.{stamps_opening};
+ghost use Rattle.summary_docs.specs.Writing.{IsShownText};
+ghost use Rattle.summary_docs.specs.inner.Writing.{kind_opening, labels_opening, stamps_opening};
 
 use crate::shown::ShownSummary;
 use cata_core::Summary;

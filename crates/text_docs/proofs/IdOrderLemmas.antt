@@ -22,7 +22,7 @@ use Rattle.std.specs.Cmp.{nat_cmp_total}
 use Rattle.std.specs.Ordering.{nat_cmp, ordering_reverse, ordering_then}
 use Rattle.std.specs.declared.cmp.Ordering.{Ordering}
 use Rattle.std.specs.declared.cmp.Ordering.TheVariants.{Equal, Greater, Less}
-use Rattle.text_docs.specs.Row.{is_simple, is_simple_from}
+use Rattle.text_docs.specs.inner.Row.{is_simple, is_simple_from}
 use Rattle.text_docs.specs.RowStrings.{Character, IsCharacter, IsString, as_meant, as_written}
 use Rattle.text_docs.proofs.ListLemmas.{head_or, tail_of}
 use Rattle.text_docs.proofs.RowStringsLemmas.{unescaped_is}

@@ -7,7 +7,8 @@ use Rattle.row_docs.specs.declared.kind.Kind.TheVariants.{Site}
 use Rattle.site_docs.specs.Plain.{IsPlainText, last_members}
 use Rattle.site_docs.proofs.PlainReads.{plain_site}
 use Rattle.text_docs.specs.Message.{IsCompactSite}
-use Rattle.text_docs.specs.Rows.{AreRows, opening}
+use Rattle.text_docs.specs.Rows.{opening}
+use Rattle.text_docs.specs.inner.Rows.{AreRows}
 use Rattle.text_docs.proofs.MessageTextLemmas.{rows_of_text}
 use Rattle.text_docs.proofs.RowsPlainLemmas.{plain_compact, plain_entries, plain_rows}
 use Rattle.text_docs.proofs.RowsPlainLemmas.{plain_rows_text}

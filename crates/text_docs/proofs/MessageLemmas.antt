@@ -37,8 +37,9 @@ use Rattle.catalogue.specs.Entries.{Entries, Entry}
 use Rattle.catalogue.specs.Live.{live, live_of}
 use Rattle.row_docs.specs.EntriesValid.{AreKeptCells, IsKeptCell}
 use Rattle.text_docs.specs.Message.{IsCompactSite}
-use Rattle.text_docs.specs.Part.{BeginsAt, HasAllFrom, HasAllUpTo, EndsAt}
-use Rattle.text_docs.specs.Rows.{AreRows, AreRowsAt, IsTail, opening}
+use Rattle.text_docs.specs.inner.Part.{BeginsAt, HasAllFrom, HasAllUpTo, EndsAt}
+use Rattle.text_docs.specs.Rows.{IsTail, opening}
+use Rattle.text_docs.specs.inner.Rows.{AreRows, AreRowsAt}
 use Rattle.text_docs.specs.RowsCompact.{CompactRow, IsCompactRow, entries, row_text, rows_text}
 use Rattle.text_docs.proofs.MessageKeptLemmas.{kept_of_reads}
 use Rattle.text_docs.proofs.RowBorderLemmas.{rows_step}

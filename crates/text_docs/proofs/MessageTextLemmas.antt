@@ -9,7 +9,8 @@ use Rattle.catalogue.specs.Entries.{Entries}
 use Rattle.row_docs.specs.Entries.{cells_values}
 use Rattle.row_docs.specs.declared.kind.Kind.TheVariants.{Site}
 use Rattle.site_docs.specs.Plain.{IsEnd, IsPlainText, IsTextOf, cells_document, last_members}
-use Rattle.site_docs.specs.Plain.{open_items, rows_text}
+use Rattle.site_docs.specs.Plain.{open_items}
+use Rattle.site_docs.specs.inner.Plain.{rows_text}
 use Rattle.site_docs.proofs.PlainLemmas.{document_taken}
 use Rattle.text_docs.specs.Rows.{opening}
 use Rattle.text_docs.proofs.RowsPlainLemmas.{plain_array}

@@ -24,10 +24,12 @@ use Rattle.cell_core.specs.Entry.{EntryKey, key_cmp, text_cmp}
 use Rattle.catalogue.specs.Entries.{Entries, Entry}
 use Rattle.catalogue.proofs.CatalogueAboveLemmas.{front_below}
 use Rattle.site_docs.specs.Plain.{IsEnd, last_members}
-use Rattle.text_docs.specs.Part.{BeginsAt, HasAllFrom, HasAllUpTo, EndsAt}
-use Rattle.text_docs.specs.Row.{ReadsAsRow, is_simple, is_unclosed_from}
+use Rattle.text_docs.specs.inner.Part.{BeginsAt, HasAllFrom, HasAllUpTo, EndsAt}
+use Rattle.text_docs.specs.Row.{ReadsAsRow, is_unclosed_from}
+use Rattle.text_docs.specs.inner.Row.{is_simple}
 use Rattle.text_docs.specs.RowStrings.{IsString}
-use Rattle.text_docs.specs.Rows.{AreRows, AreRowsAt, IsTail, opening}
+use Rattle.text_docs.specs.Rows.{IsTail, opening}
+use Rattle.text_docs.specs.inner.Rows.{AreRows, AreRowsAt}
 use Rattle.text_docs.specs.RowsCompact.{CompactRow, IsCompactRow, entries, in_quotes, rows_text}
 use Rattle.lang_core.proofs.Basics.{less_of as less_is}
 use Rattle.cell_core.proofs.Basics.{first_part, is_greater as greater_is}

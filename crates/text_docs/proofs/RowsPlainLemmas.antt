@@ -22,7 +22,7 @@ use Rattle.catalogue.specs.Entries.{Entries, Entry}
 use Rattle.row_docs.specs.Entries.{cells_values, entry_value, row_of}
 use Rattle.row_docs.specs.EntriesValues.{label_value}
 use Rattle.site_docs.specs.Plain.{open_items}
-use Rattle.site_docs.specs.PlainRows.{row_before as plain_before}
+use Rattle.site_docs.specs.inner.PlainRows.{row_before as plain_before}
 use Rattle.site_docs.proofs.PlainLemmas.{array_taken, row_taken}
 use Rattle.text_docs.specs.RowStrings.{Character, IsCharacter, IsString, as_meant, as_written}
 use Rattle.text_docs.specs.RowStrings.{is_unescaped}

@@ -27,11 +27,12 @@ use Rattle.row_docs.specs.EntriesValues.{label_value}
 use Rattle.row_docs.specs.WritingTexts.{text}
 use Rattle.row_docs.specs.declared.kind.Kind.TheVariants.{Site}
 use Rattle.site_docs.specs.Plain.{IsTextOf, cells_document, open_items}
-use Rattle.site_docs.specs.PlainRows.{row_before as plain_before}
+use Rattle.site_docs.specs.inner.PlainRows.{row_before as plain_before}
 use Rattle.site_docs.specs.Reading.{ReadsAsSite}
 use Rattle.site_docs.proofs.WritingRoundTrip.{reads_site}
 use Rattle.text_docs.specs.RowStrings.{IsString}
-use Rattle.text_docs.specs.Rows.{AreRows, opening}
+use Rattle.text_docs.specs.Rows.{opening}
+use Rattle.text_docs.specs.inner.Rows.{AreRows}
 use Rattle.text_docs.specs.RowsCompact.{AreLabelStrings, AreStrings, CompactRow, IsCompactRow}
 use Rattle.text_docs.specs.RowsCompact.{entries, in_quotes, rows_text, strings_text}
 use Rattle.text_docs.proofs.RowBorderLemmas.{array_is, closed_row, count_fits, row_before}

@@ -1,6 +1,6 @@
 pub mod Message
-pub mod Part
 pub mod Row
 pub mod RowStrings
 pub mod Rows
 pub mod RowsCompact
+pub mod inner

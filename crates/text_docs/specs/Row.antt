@@ -1,6 +1,5 @@
 -- How a row reads at its place in a document. Project rule.
-use Rattle.std.specs.Prelude.{◌≡◌, ◌∷◌, ◌++◌, ◌&&◌, ◌||◌, ◌==◌, [], ℕ, Bool, List, cond, false, not}
-use Rattle.std.specs.Prelude.{true}
+use Rattle.std.specs.Prelude.{◌≡◌, ◌∷◌, ◌++◌, ◌||◌, ◌==◌, [], ℕ, Bool, List, cond, false, not, true}
 use Rattle.std.specs.Char.{is_ascii_alphanumeric}
 
 -- a letter, a digit or "@": what a language begins with
@@ -16,16 +15,6 @@ is_unclosed_from false (b ∷ bs) = cond (b == 34) false (is_unclosed_from (b ==
 -- whether no quote ends a string within these bytes, of which none is left after a backslash
 abbrev pub is_unclosed : List ℕ → Bool
 is_unclosed = is_unclosed_from false
-
--- whether each escape in these bytes, of which the first may be after a backslash, is `\"` or `\\`
-abbrev pub is_simple_from : Bool → List ℕ → Bool
-is_simple_from escaped [] = true
-is_simple_from true (b ∷ bs) = ((b == 34) || (b == 92)) && is_simple_from false bs
-is_simple_from false (b ∷ bs) = is_simple_from (b == 92) bs
-
--- whether these bytes have no other escapes
-abbrev pub is_simple : List ℕ → Bool
-is_simple = is_simple_from false
 
 -- `],["ID","` and the first byte of a language
 pub record ReadsAsRow (text id : List ℕ) : Type 0 where

@@ -1,7 +1,7 @@
 //! The order of two ids, of which one is given as it is written.
 ghost use Rattle.std.specs.Prelude.{◌≡◌, ◌<◌, ◌∷◌, [], List, ℕ, IfSome, MatchOption, length, true};
 ghost use Rattle.cell_core.specs.Entry.{text_cmp};
-ghost use Rattle.text_docs.specs.Row.{is_simple};
+ghost use Rattle.text_docs.specs.inner.Row.{is_simple};
 ghost use Rattle.text_docs.specs.RowStrings.{IsString};
 
 use crate::row::split;

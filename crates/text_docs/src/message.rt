@@ -5,7 +5,8 @@ ghost use Rattle.cata_core.specs.Site.{SiteState};
 ghost use Rattle.catalogue.specs.Live.{live};
 ghost use Rattle.row_docs.specs.Reading.{no_memory};
 ghost use Rattle.text_docs.specs.Message.{IsCompactSite};
-ghost use Rattle.text_docs.specs.Rows.{AreRowsAt, opening};
+ghost use Rattle.text_docs.specs.Rows.{opening};
+ghost use Rattle.text_docs.specs.inner.Rows.{AreRowsAt};
 
 use crate::part::part_of;
 use crate::rows::{OPENING, Rows, rows_in};

@@ -1,7 +1,7 @@
 //! The part of a written document in which all rows of a message are.
 ghost use Rattle.std.specs.Prelude.{◌≡◌, ◌<◌, ◌≤◌, IfSome, length};
-ghost use Rattle.text_docs.specs.Part.{HasAllFrom, HasAllUpTo};
-ghost use Rattle.text_docs.specs.Rows.{AreRowsAt};
+ghost use Rattle.text_docs.specs.inner.Part.{HasAllFrom, HasAllUpTo};
+ghost use Rattle.text_docs.specs.inner.Rows.{AreRowsAt};
 
 use crate::id_order::order_of;
 use crate::row::next_row;

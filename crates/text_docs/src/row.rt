@@ -1,7 +1,8 @@
 //! Where a row of a document begins.
 ghost use Rattle.std.specs.Prelude.{◌≡◌, ◌<◌, ◌≤◌, ◌++◌, ◌∷◌, List, ℕ, IfSome, drop, length};
 ghost use Rattle.std.specs.Prelude.{[], MatchOption, take, true};
-ghost use Rattle.text_docs.specs.Row.{ReadsAsRow, begins_language, is_simple, is_unclosed};
+ghost use Rattle.text_docs.specs.Row.{ReadsAsRow, begins_language, is_unclosed};
+ghost use Rattle.text_docs.specs.inner.Row.{is_simple};
 
 use memchr::memchr;
 

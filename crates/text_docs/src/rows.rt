@@ -1,6 +1,6 @@
 //! Where the rows of a written document lie.
 ghost use Rattle.std.specs.Prelude.{◌≡◌, ◌∷◌, IfSome};
-ghost use Rattle.text_docs.specs.Rows.{AreRowsAt};
+ghost use Rattle.text_docs.specs.inner.Rows.{AreRowsAt};
 
 use crate::row::after;
 use memchr::memrchr;

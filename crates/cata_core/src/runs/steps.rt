@@ -5,9 +5,10 @@ ghost use Rattle.cata_core.specs.declared.step.Step.TheVariants.{Edit as EditSte
 ghost use Rattle.cata_core.specs.declared.step.Step.TheVariants.{AskFilter, AskLookup, AskCells};
 ghost use Rattle.cata_core.specs.declared.step.Step.TheVariants.{Tell, Post, Deliver};
 ghost use Rattle.catalogue.specs.Entries.{Entries, Agree, joined};
-ghost use Rattle.catalogue.specs.CataFault.{IsRefusal, IsOfCells};
-ghost use Rattle.cata_core.specs.PlayFault.{RefusesStep};
-ghost use Rattle.cata_core.specs.World.{held_in, IsRunning, IsStepped, IsClashAt};
+ghost use Rattle.catalogue.specs.CataFault.{IsRefusal};
+ghost use Rattle.catalogue.specs.inner.CataFault.{IsOfCells};
+ghost use Rattle.cata_core.specs.inner.PlayFault.{RefusesStep};
+ghost use Rattle.cata_core.specs.inner.World.{held_in, IsRunning, IsStepped, IsClashAt};
 
 use crate::answer::{Answer, Edits};
 use crate::delta::missing_cells;

@@ -1,6 +1,7 @@
 use Rattle.std.proofs.Common.{rules}
 use Rattle.std.specs.Prelude.{unwrap_or}
-use Rattle.command_c.specs.Answer.{out_of_memory, is_read}
+use Rattle.command_c.specs.Answer.{out_of_memory}
+use Rattle.command_c.specs.inner.Answer.{is_read}
 use Rattle.command_c.proofs.sw_command.Goals as goal
 
 pub returns : goal.returns

@@ -8,7 +8,7 @@ ghost use Rattle.catalogue.specs.Entries.{Entries};
 ghost use Rattle.site_docs.specs.Reading.{IsSiteText};
 ghost use Rattle.site_docs.specs.RowsDraft.{HoldsRows};
 ghost use Rattle.site_docs.specs.Sink.{IsLabelRef, IsRowOf, entry_of};
-ghost use Rattle.docs_core.specs.EditedRows.{HoldsEdited, after_key, before_key};
+ghost use Rattle.docs_core.specs.inner.EditedRows.{HoldsEdited, after_key, before_key};
 
 use crate::call::latest_stamp::later;
 use cell_core::{Cell, Key, MessageId, SiteName, Stamp};

@@ -6,7 +6,7 @@ ghost use Rattle.catalogue.specs.Entries.{Entries, IsAboveAll};
 ghost use Rattle.catalogue.specs.CatalogueLatest.{latest_of};
 ghost use Rattle.map_docs.specs.Maps.{Labelled};
 ghost use Rattle.site_docs.specs.Sink.{entry_of, texts_of};
-ghost use Rattle.docs_core.specs.FoundChanges.{HoldsFound, IsFound, IsNoted, changes_of};
+ghost use Rattle.docs_core.specs.inner.FoundChanges.{HoldsFound, IsFound, IsNoted, changes_of};
 ghost use Rattle.docs_core.specs.Updating.{AreChanges};
 
 use crate::call::latest_stamp::{LatestStamp, later};

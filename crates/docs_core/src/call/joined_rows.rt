@@ -11,8 +11,8 @@ ghost use Rattle.catalogue.specs.Equality.{seen};
 ghost use Rattle.site_docs.specs.Reading.{IsSiteText};
 ghost use Rattle.site_docs.specs.RowsDraft.{HoldsRows};
 ghost use Rattle.site_docs.specs.Sink.{IsLabelRef, IsRowOf, entry_of};
-ghost use Rattle.docs_core.specs.JoinedRows.{HoldsJoined, IsFirstGreater, IsJoinedTo, IsJoining};
-ghost use Rattle.docs_core.specs.JoinedRows.{IsWrittenBoth, left_of};
+ghost use Rattle.docs_core.specs.inner.JoinedRows.{HoldsJoined, IsFirstGreater, IsJoinedTo};
+ghost use Rattle.docs_core.specs.inner.JoinedRows.{IsJoining, IsWrittenBoth, left_of};
 
 use cata_core::{CataFault, Catalogue, Cells};
 use cell_core::{Cell, Join, Key, MessageId, SiteName, Stamp};

@@ -2,7 +2,8 @@
 ghost use Rattle.std.specs.Prelude.{IfErr, MatchResult, OnOk};
 ghost use Rattle.json_docs.specs.FaultChecks.{OrMemory};
 ghost use Rattle.row_docs.specs.Reading.{no_memory};
-ghost use Rattle.docs_core.specs.Merging.{IsMerged, JoinsOther, RefusesMerge, RefusesOther};
+ghost use Rattle.docs_core.specs.Merging.{IsMerged, RefusesMerge, RefusesOther};
+ghost use Rattle.docs_core.specs.inner.Merging.{JoinsOther};
 
 use crate::lines::{Lines, two_documents};
 use cata_core::Site;

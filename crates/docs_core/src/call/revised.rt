@@ -5,7 +5,7 @@ ghost use Rattle.std.specs.Bool.{Decides};
 ghost use Rattle.cell_core.specs.Keyed.{IsMap};
 ghost use Rattle.cell_core.specs.Entry.{key_cmp};
 ghost use Rattle.site_docs.specs.Sink.{texts_of};
-ghost use Rattle.docs_core.specs.Revised.{IsFirstRevised, key_of, new_of, old_of};
+ghost use Rattle.docs_core.specs.inner.Revised.{IsFirstRevised, key_of, new_of, old_of};
 ghost use Rattle.docs_core.specs.Updating.{IsChangeAt};
 
 use cell_core::{Entry, Label};

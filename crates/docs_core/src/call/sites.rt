@@ -14,7 +14,7 @@ ghost use Rattle.docs_core.specs.Calls.{AreSynced, IsEdited, IsDeltaFor, IsSumma
 ghost use Rattle.docs_core.specs.Calls.{IsTaken, RefusesEditing, RefusesDeltaFor, RefusesSync};
 ghost use Rattle.docs_core.specs.Calls.{RefusesTaking};
 ghost use Rattle.site_docs.specs.Checks.{IsOwnMissing, IsOwnMissingOfBoth, LackNoOwn, LacksNoOwn};
-ghost use Rattle.docs_core.specs.SyncedRows.{AreTestsOf};
+ghost use Rattle.docs_core.specs.inner.SyncedRows.{AreTestsOf};
 
 use crate::call::edited_rows::EditedRows;
 use crate::call::joined_rows::JoinedRows;

@@ -8,8 +8,8 @@ ghost use Rattle.site_docs.specs.Reading.{IsSiteText, ReadsAsSite};
 ghost use Rattle.site_docs.specs.WrittenRows.{HasRead, current_of};
 ghost use Rattle.docs_core.specs.ImportingLabels.{puts_of};
 ghost use Rattle.docs_core.specs.UpdatingChanges.{Change, Makes};
-ghost use Rattle.docs_core.specs.StampedRows.{HoldsStamped};
-ghost use Rattle.docs_core.specs.SyncedRows.{IsSyncedBefore, IsSyncedTo, order_to, untested};
+ghost use Rattle.docs_core.specs.inner.StampedRows.{HoldsStamped};
+ghost use Rattle.docs_core.specs.inner.SyncedRows.{IsSyncedBefore, IsSyncedTo, order_to, untested};
 
 use crate::call::latest_stamp::LatestStamp;
 use crate::call::synced_rows::{UNTESTED, advance, write_all, write_before};

@@ -10,9 +10,9 @@ ghost use Rattle.site_docs.specs.RowsDraft.{HoldsRows};
 ghost use Rattle.site_docs.specs.Sink.{IsLabelRef, IsRowOf, entry_of, texts_of};
 ghost use Rattle.site_docs.specs.WrittenRows.{HasRead, IsRowText, current_of, left_in};
 ghost use Rattle.site_docs.specs.WrittenRows.{entry_of as row_entry};
-ghost use Rattle.docs_core.specs.SyncedRows.{AreNames, HoldsSynced, IsOfAnother, IsSyncedAll};
-ghost use Rattle.docs_core.specs.SyncedRows.{IsSyncedBefore, IsSyncedTo, LackNone, LackNoneAt};
-ghost use Rattle.docs_core.specs.SyncedRows.{order_to};
+ghost use Rattle.docs_core.specs.inner.SyncedRows.{AreNames, HoldsSynced, IsOfAnother, IsSyncedAll};
+ghost use Rattle.docs_core.specs.inner.SyncedRows.{IsSyncedBefore, IsSyncedTo, LackNone};
+ghost use Rattle.docs_core.specs.inner.SyncedRows.{LackNoneAt, order_to};
 ghost use Rattle.site_docs.specs.RowsInTime.{AreInTime};
 
 use cell_core::{Key, MessageId, SiteName};

@@ -13,12 +13,13 @@ ghost use Rattle.site_docs.specs.Reading.{IsSiteText, ReadsAsSite};
 ghost use Rattle.site_docs.specs.Sink.{texts_of};
 ghost use Rattle.map_docs.specs.MapsLabels.{AreLangMaps};
 ghost use Rattle.query_docs.specs.Exporting.{label_at};
-ghost use Rattle.docs_core.specs.FoundChanges.{changes_of};
+ghost use Rattle.docs_core.specs.inner.FoundChanges.{changes_of};
 ghost use Rattle.docs_core.specs.UpdatingChanges.{Change, Makes};
-ghost use Rattle.docs_core.specs.Revised.{IsRevised, NoStamp};
-ghost use Rattle.docs_core.specs.StampedRows.{HoldsStamped};
-ghost use Rattle.docs_core.specs.Updating.{AreChanges, IsUpdated, IsWithUpdates, RefusesMaps};
-ghost use Rattle.docs_core.specs.Updating.{RefusesUpdate, RefusesUpdates, SpendsUpdate, Updates};
+ghost use Rattle.docs_core.specs.inner.Revised.{IsRevised, NoStamp};
+ghost use Rattle.docs_core.specs.inner.StampedRows.{HoldsStamped};
+ghost use Rattle.docs_core.specs.Updating.{AreChanges, IsUpdated, RefusesUpdate, SpendsUpdate};
+ghost use Rattle.docs_core.specs.Updating.{Updates};
+ghost use Rattle.docs_core.specs.inner.Updating.{IsWithUpdates, RefusesMaps, RefusesUpdates};
 
 use crate::call::found_changes::{FoundChanges, KeyChange};
 use crate::call::revised::{Revised, first_revised, is_change};

@@ -36,7 +36,7 @@ impl Model for SiteHandle {
 unsafe impl Send for SiteHandle {}
 
 impl SiteHandle {
-    ghost use Rattle.front_c.specs.Handles.{LendsSite, with_site};
+    ghost use Rattle.front_c.specs.inner.Handles.{LendsSite, with_site};
     ghost use Rattle.front_c.specs.SiteHandleHeld.{share_row};
     ghost use Rattle.front_c.specs.contracts.handles.site_handle.SiteHandle.{the_row};
 

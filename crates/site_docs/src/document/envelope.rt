@@ -6,10 +6,10 @@ ghost use Rattle.json.specs.Token.{string};
 ghost use Rattle.cell_core.specs.SiteName.{IsSiteName};
 ghost use Rattle.cata_core.specs.Delta.{Stamps};
 ghost use Rattle.catalogue.specs.Entries.{Entries};
-ghost use Rattle.row_docs.specs.WritingEnvelope.{name_tokens, version_tokens};
+ghost use Rattle.row_docs.specs.inner.WritingEnvelope.{name_tokens, version_tokens};
 ghost use Rattle.row_docs.specs.WritingTexts.{Adds};
-ghost use Rattle.site_docs.specs.Envelope.{IsFront, IsStampsFront, cells_opening, end_text};
-ghost use Rattle.site_docs.specs.Envelope.{stamps_opening};
+ghost use Rattle.site_docs.specs.Envelope.{cells_opening};
+ghost use Rattle.site_docs.specs.inner.Envelope.{IsFront, IsStampsFront, end_text, stamps_opening};
 ghost use Rattle.site_docs.specs.Reading.{IsDeltaText, IsSiteText, IsSummaryText};
 
 use cell_core::SiteName;

@@ -6,7 +6,7 @@ ghost use Rattle.json_docs.specs.declared.fault.DocCause.TheVariants.{NoMemory};
 ghost use Rattle.catalogue.specs.Entries.{Entries, IsAboveAll};
 ghost use Rattle.row_docs.specs.Fields.{IsAfter};
 ghost use Rattle.row_docs.specs.Ascending.{cell_checks};
-ghost use Rattle.site_docs.specs.ShownRows.{HoldsShown, key_of};
+ghost use Rattle.site_docs.specs.inner.ShownRows.{HoldsShown, key_of};
 
 use crate::sink::{CellRef, CellSink, LabelRef};
 use cell_core::{Cell, Key, MessageId};

@@ -5,7 +5,7 @@ ghost use Rattle.cell_core.specs.Entry.{key_cmp};
 ghost use Rattle.site_docs.specs.Documents.{delta_text, site_text, summary_text};
 ghost use Rattle.site_docs.specs.Reading.{ReadsAsDelta, ReadsAsSite, ReadsAsSummary};
 ghost use Rattle.site_docs.specs.RowsDraft.{HoldsRows};
-ghost use Rattle.site_docs.specs.StampsDraft.{HoldsStamps};
+ghost use Rattle.site_docs.specs.inner.StampsDraft.{HoldsStamps};
 
 use crate::rows_draft::RowsDraft;
 use crate::stamps_draft::StampsDraft;

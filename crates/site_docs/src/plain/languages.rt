@@ -2,7 +2,7 @@
 ghost use Rattle.std.specs.Prelude.{◌≡◌, ◌<◌, ◌≤◌, ◌+◌, [], IfErr, IsTrue, MatchResult, OnOk};
 ghost use Rattle.std.specs.Prelude.{List, ℕ, get_or, length, max};
 ghost use Rattle.lang_core.specs.Lang.{IsLang, RefusesLang, SpellsLang};
-ghost use Rattle.site_docs.specs.Unread.{RefusesSpelling};
+ghost use Rattle.site_docs.specs.inner.Unread.{RefusesSpelling};
 ghost use Rattle.site_docs.specs.declared.plain.unread.Unread.TheVariants.{NoMemory};
 
 use crate::plain::unread::Unread;

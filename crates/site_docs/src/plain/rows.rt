@@ -14,11 +14,11 @@ ghost use Rattle.row_docs.specs.Entries.{entry_value};
 ghost use Rattle.row_docs.specs.Fields.{IsAfter, IsLabelText, stamp_of};
 ghost use Rattle.row_docs.specs.EntriesValid.{AreKeptCells, IsKeptCell};
 ghost use Rattle.row_docs.specs.EntriesValues.{stamp_value};
-ghost use Rattle.site_docs.specs.Plain.{rows_text};
-ghost use Rattle.site_docs.specs.PlainRows.{IsLastOf, IsSpelled, entry_in, key_in, row_until};
-ghost use Rattle.site_docs.specs.PlainRows.{row_before, row_in, text_in};
+ghost use Rattle.site_docs.specs.inner.Plain.{rows_text};
+ghost use Rattle.site_docs.specs.PlainRows.{IsSpelled, entry_in, key_in, row_in, text_in};
+ghost use Rattle.site_docs.specs.inner.PlainRows.{IsLastOf, row_until, row_before};
 ghost use Rattle.site_docs.specs.Sink.{IsLabelRef, IsRowOf, entry_of, texts_of};
-ghost use Rattle.site_docs.specs.Unread.{RefusesSpelling};
+ghost use Rattle.site_docs.specs.inner.Unread.{RefusesSpelling};
 
 use crate::plain::labels::next_label;
 use crate::plain::languages::KnownLanguages;

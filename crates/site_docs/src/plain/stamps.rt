@@ -5,8 +5,9 @@ ghost use Rattle.catalogue.specs.Entries.{IsAboveAll};
 ghost use Rattle.row_docs.specs.Entries.{stamped_value};
 ghost use Rattle.row_docs.specs.Fields.{IsAfter};
 ghost use Rattle.row_docs.specs.EntriesValid.{AreKeptStamps, IsKeptStamp};
-ghost use Rattle.site_docs.specs.PlainRows.{IsLastOf, IsSpelled, key_in, stamped_in};
-ghost use Rattle.site_docs.specs.PlainStamps.{stamps_text};
+ghost use Rattle.site_docs.specs.PlainRows.{IsSpelled, key_in};
+ghost use Rattle.site_docs.specs.inner.PlainRows.{IsLastOf, stamped_in};
+ghost use Rattle.site_docs.specs.inner.PlainStamps.{stamps_text};
 ghost use Rattle.site_docs.specs.Reading.{ReadsAsSummary};
 
 use crate::plain::documents::is_version;

@@ -2,7 +2,7 @@ use Rattle.std.proofs.Common.{◌∙◌, ap, arith, subst, sym, length, length-a
 use Rattle.std.proofs.lemmas.Result.{err_from_is_err_and}
 use Rattle.catalogue.specs.Entries.{Entries}
 use Rattle.cata_core.specs.Answer.{AreHeldAnswers, AreAnswers}
-use Rattle.cata_core.specs.World.{at_sites}
+use Rattle.cata_core.specs.inner.World.{at_sites}
 use Rattle.cata_core.proofs.RunsMachineLemmas.{first_fault}
 use Rattle.cata_core.proofs.RunsTakenAndHeldLemmas.{consistent_no_clash}
 use Rattle.cata_core.proofs.WorldLemmas.{one_more_empty}

@@ -1,5 +1,5 @@
 use Rattle.std.proofs.Common.{◌≡◌, [], length}
-use Rattle.cata_core.specs.World.{at_sites}
+use Rattle.cata_core.specs.inner.World.{at_sites}
 use Rattle.cata_core.proofs.RunsPlayingLemmas.{IsPlayed}
 use Rattle.cata_core.proofs.runs.play.Given as goal
 

@@ -1,5 +1,6 @@
 use Rattle.std.proofs.Common.{◌≡◌, inr, sym, ◌∙◌, ap, subst}
-use Rattle.catalogue.specs.Entries.{Entries, Agree, joined, Between, catalogue_laws}
+use Rattle.catalogue.specs.Entries.{Entries, Agree, joined, Between}
+use Rattle.catalogue.specs.inner.Entries.{catalogue_laws}
 use Rattle.cata_core.specs.Site.{SiteState}
 use Rattle.cata_core.proofs.SyncingTurnsLemmas.{agrees_with_join, joined_to_join, between_join}
 use Rattle.cata_core.proofs.syncing.sync.Goals as goal

@@ -1,7 +1,7 @@
 use Rattle.std.proofs.Common.{◌≡◌, take}
 use Rattle.nego_core.specs.Filtering.{texts_of}
 use Rattle.catalogue.specs.Live.{languages}
-use Rattle.catalogue.specs.EntriesBorrowed.{labelled_of}
+use Rattle.catalogue.specs.inner.EntriesBorrowed.{labelled_of}
 use Rattle.catalogue.proofs.asking.languages_of.Given as goal
 
 abbrev pub invariant-loop-lang : goal.invariant-loop-lang

@@ -1,7 +1,7 @@
 use Rattle.std.proofs.Common.{◌≡◌, ◌++◌}
 use Rattle.nego_core.specs.Offer.{items_of}
 use Rattle.catalogue.specs.Labels.{labels_left}
-use Rattle.catalogue.specs.EntriesBorrowed.{labelled_of}
+use Rattle.catalogue.specs.inner.EntriesBorrowed.{labelled_of}
 use Rattle.catalogue.specs.EntriesOffered.{offered_labels}
 use Rattle.catalogue.proofs.asking.listed.Given as goal
 

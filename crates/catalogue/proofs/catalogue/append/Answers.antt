@@ -1,6 +1,7 @@
 use Rattle.std.proofs.Common.{sym, ap, ◌∙◌, subst}
 use Rattle.std.proofs.lemmas.Result.{on_ok_weaker, on_err_weaker}
-use Rattle.catalogue.specs.CatalogueFlat.{flat, inner_of}
+use Rattle.catalogue.specs.CatalogueFlat.{flat}
+use Rattle.catalogue.specs.inner.CatalogueFlat.{inner_of}
 use Rattle.catalogue.specs.CatalogueNested.{IsCatalogue}
 use Rattle.catalogue.proofs.CatalogueNestedLemmas.{either_way, IsCatalogue-put, flat-put, put_back}
 use Rattle.catalogue.proofs.catalogue.append.Goals as goal

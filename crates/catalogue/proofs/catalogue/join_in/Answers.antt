@@ -7,9 +7,10 @@ use Rattle.cell_core.specs.declared.cell.Cell.{Cell}
 use Rattle.cell_core.specs.Cell.{AgreeCells, joined_cells}
 use Rattle.cell_core.specs.Keyed.{AgreeIfBoth, joined_at}
 use Rattle.catalogue.specs.declared.cell_refusal.CellRefusal.TheVariants.{NoMemory}
-use Rattle.catalogue.specs.CellRefusal.{IsCellRefusal}
+use Rattle.catalogue.specs.inner.CellRefusal.{IsCellRefusal}
 use Rattle.cell_core.specs.Entry.{text_cmp}
-use Rattle.catalogue.specs.CatalogueFlat.{flat, inner_of}
+use Rattle.catalogue.specs.CatalogueFlat.{flat}
+use Rattle.catalogue.specs.inner.CatalogueFlat.{inner_of}
 use Rattle.catalogue.specs.CatalogueNested.{Inner, IsCatalogue}
 use Rattle.catalogue.specs.CatalogueSettled.{IsSettledBy}
 use Rattle.catalogue.proofs.CatalogueNestedLemmas.{either_way, IsCatalogue-put, put_back}

@@ -1,7 +1,8 @@
 use Rattle.std.proofs.Common.{◌≡◌, ◌<◌, sym, ◌∙◌, ap, [], ◌++◌, length, take, ◌+◌, arith}
 use Rattle.std.specs.List.{cons_option}
 use Rattle.catalogue.specs.Asking.{picked}
-use Rattle.catalogue.specs.EntriesBorrowed.{weighed_of, labelled_of}
+use Rattle.catalogue.specs.EntriesBorrowed.{weighed_of}
+use Rattle.catalogue.specs.inner.EntriesBorrowed.{labelled_of}
 use Rattle.catalogue.proofs.Basics.{append_nil, there}
 use Rattle.catalogue.proofs.EntriesBorrowedLemmas.{weighed_push, picked_more}
 use Rattle.catalogue.proofs.entries.pick_all.Goals as goal

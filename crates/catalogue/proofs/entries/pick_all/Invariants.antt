@@ -1,6 +1,7 @@
 use Rattle.std.proofs.Common.{◌≡◌, take}
 use Rattle.catalogue.specs.Asking.{picked}
-use Rattle.catalogue.specs.EntriesBorrowed.{labelled_of, weighed_of}
+use Rattle.catalogue.specs.EntriesBorrowed.{weighed_of}
+use Rattle.catalogue.specs.inner.EntriesBorrowed.{labelled_of}
 use Rattle.catalogue.proofs.entries.pick_all.Given as goal
 
 abbrev pub invariant-loop-place : goal.invariant-loop-place

@@ -1,7 +1,8 @@
 use Rattle.cell_core.specs.Cell.{joined_cells}
-use Rattle.cell_core.specs.KeyedLaws.{joined_maps-IsMap, find-joined_maps}
+use Rattle.cell_core.specs.inner.KeyedLaws.{joined_maps-IsMap, find-joined_maps}
 use Rattle.cell_core.proofs.ChunkJoinsRunLemmas.{joined_is}
-use Rattle.cell_core.specs.Entry.{key_cmp, key_cmp_total, key_cmp_exact}
+use Rattle.cell_core.specs.Entry.{key_cmp}
+use Rattle.cell_core.specs.inner.Entry.{key_cmp_total, key_cmp_exact}
 use Rattle.catalogue.proofs.laws.a_join_has_each_key.Goals as goal
 
 pub returns-clause-each : goal.returns-clause-each

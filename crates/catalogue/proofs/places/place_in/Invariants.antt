@@ -1,6 +1,6 @@
 use Rattle.std.proofs.Common.{◌≡◌, ◌+◌, length}
 use Rattle.cell_core.specs.Iter.{entries_left}
-use Rattle.cell_core.specs.KeyedPlaces.{place_of}
+use Rattle.cell_core.specs.inner.KeyedPlaces.{place_of}
 use Rattle.cell_core.specs.Entry.{text_cmp}
 use Rattle.catalogue.proofs.places.place_in.Given as goal
 

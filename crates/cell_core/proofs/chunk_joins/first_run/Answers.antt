@@ -1,5 +1,5 @@
 use Rattle.std.proofs.Common.{◌+◌, ◌<◌, Vec, Global, length, arith, sym, subst}
-use Rattle.cell_core.specs.Chunks.{IsChunkFor}
+use Rattle.cell_core.specs.inner.Chunks.{IsChunkFor}
 use Rattle.cell_core.proofs.KeyedPlacesLemmas.{place_of-le}
 use Rattle.cell_core.proofs.ChunkLemmas.{filled_at}
 use Rattle.cell_core.proofs.ChunkJoinsFirstRunLemmas.{last_run, bounded_run, bounded_some}

@@ -1,7 +1,8 @@
 use Rattle.std.proofs.Common.{◌≤◌, Vec, Global, [], length, set, take, drop, arith, sym, subst}
 use Rattle.std.proofs.Common.{take-append-drop}
 use Rattle.cell_core.specs.Keyed.{IsMap, IsJoinedWith}
-use Rattle.cell_core.specs.Chunks.{all_of, IsRunFor}
+use Rattle.cell_core.specs.Chunks.{all_of}
+use Rattle.cell_core.specs.inner.Chunks.{IsRunFor}
 use Rattle.cell_core.proofs.Basics.{on_err_always}
 use Rattle.cell_core.proofs.ChunkLemmas.{chunk_map}
 use Rattle.cell_core.proofs.ChunkJoinsRunLemmas.{map_of_take, chunk_agrees, length_with}

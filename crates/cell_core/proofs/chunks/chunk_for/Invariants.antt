@@ -2,7 +2,7 @@ use Rattle.std.proofs.Common.{◌≡◌, ◌-◌, ◌<◌, ◌≤◌, length, ta
 use Rattle.std.specs.Prelude.{T}
 use Rattle.std.specs.FinMap.Entries.{below_all}
 use Rattle.cell_core.specs.Chunks.{all_of}
-use Rattle.cell_core.specs.KeyedPlaces.{place_of}
+use Rattle.cell_core.specs.inner.KeyedPlaces.{place_of}
 use Rattle.cell_core.proofs.chunks.chunk_for.Given as goal
 
 abbrev pub invariant-loop-low : goal.invariant-loop-low

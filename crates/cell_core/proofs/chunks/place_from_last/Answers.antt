@@ -1,5 +1,5 @@
 use Rattle.std.proofs.Common.{◌≡◌, ◌-◌, length, get_or, arith, sym, ap, ◌∙◌, subst}
-use Rattle.cell_core.specs.Chunks.{IsPlaceIn}
+use Rattle.cell_core.specs.inner.Chunks.{IsPlaceIn}
 use Rattle.cell_core.proofs.ChunksAppendLemmas.{at_last, some_of_last, gap_behind, none_found}
 use Rattle.cell_core.proofs.ChunksAppendLemmas.{place_at_last}
 use Rattle.cell_core.proofs.chunks.place_from_last.Goals as goal

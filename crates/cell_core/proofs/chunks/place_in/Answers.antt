@@ -2,7 +2,7 @@ use Rattle.std.proofs.Common.{Vec, Global, sym, ap, ◌∙◌, subst}
 use Rattle.std.specs.FinMap.Entries.{find}
 use Rattle.std.proofs.lemmas.List.{get_or_default}
 use Rattle.cell_core.specs.Keyed.{IsMap}
-use Rattle.cell_core.specs.KeyedPlaces.{IsPlace}
+use Rattle.cell_core.specs.inner.KeyedPlaces.{IsPlace}
 use Rattle.cell_core.proofs.ChunkLemmas.{chunk_map, find-chunk}
 use Rattle.cell_core.proofs.chunks.place_in.Goals as goal
 

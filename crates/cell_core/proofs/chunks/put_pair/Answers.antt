@@ -2,7 +2,8 @@ use Rattle.std.proofs.Common.{◌≡◌, Vec, Global, length, arith, sym, ap, �
 use Rattle.std.specs.Option.{IsSome}
 use Rattle.std.specs.FinMap.Entries.{find, put}
 use Rattle.cell_core.specs.Keyed.{IsMap}
-use Rattle.cell_core.specs.Chunks.{all_of, IsChunked, IsChunkFor}
+use Rattle.cell_core.specs.Chunks.{all_of, IsChunked}
+use Rattle.cell_core.specs.inner.Chunks.{IsChunkFor}
 use Rattle.cell_core.proofs.ChunkLemmas.{chunk_map, chunked_put, chunked_same, find-chunk}
 use Rattle.cell_core.proofs.ChunkJoinsRunLemmas.{length_with}
 use Rattle.cell_core.proofs.chunks.put_pair.Goals as goal

@@ -1,7 +1,7 @@
 use Rattle.std.proofs.Common.{◌∙◌, ap, ◌≡◌, ◌++◌, slice_get, take-append-drop}
 use Rattle.std.specs.Vec.Iter.{into_iter_items}
 use Rattle.std.specs.FinMap.Entries.{find}
-use Rattle.cell_core.specs.InterleaveMissing.{or_other, pairs_of}
+use Rattle.cell_core.specs.inner.InterleaveMissing.{or_other, pairs_of}
 use Rattle.cell_core.proofs.InterleaveLemmas.{AllFrom-first}
 use Rattle.cell_core.proofs.interleave.add_missing.Goals as goal
 

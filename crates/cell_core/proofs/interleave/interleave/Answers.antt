@@ -2,7 +2,7 @@ use Rattle.std.proofs.Common.{sym, ◌∙◌, ap, subst, ◌≡◌, [], ◌∷�
 use Rattle.std.proofs.Common.{vec_len, arith, append-nil}
 use Rattle.std.specs.Vec.Iter.{into_iter_items}
 use Rattle.std.specs.FinMap.Entries.{find}
-use Rattle.cell_core.specs.InterleaveMissing.{or_other, pairs_of}
+use Rattle.cell_core.specs.inner.InterleaveMissing.{or_other, pairs_of}
 use Rattle.cell_core.proofs.InterleaveLemmas.{IsInterleaved, interleaved_one_more, empty_of}
 use Rattle.cell_core.proofs.InterleaveLemmas.{or_none}
 use Rattle.cell_core.proofs.interleave.interleave.Goals as goal

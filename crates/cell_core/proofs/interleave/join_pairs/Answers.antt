@@ -2,7 +2,7 @@ use Rattle.std.proofs.Common.{◌≡◌, ◌≤◌, length, take, drop, arith, s
 use Rattle.std.specs.FinMap.Entries.{find}
 use Rattle.std.proofs.lemmas.List.{take_all}
 use Rattle.cell_core.specs.Keyed.{BetweenAtKeys}
-use Rattle.cell_core.specs.InterleaveMissing.{AllGaps, IsCommonJoined, or_other, pairs_of}
+use Rattle.cell_core.specs.inner.InterleaveMissing.{AllGaps, IsCommonJoined, or_other, pairs_of}
 use Rattle.cell_core.proofs.Basics.{on_err_always}
 use Rattle.cell_core.proofs.PairsCommonLemmas.{stopped_between}
 use Rattle.cell_core.proofs.InterleaveLemmas.{take_front, missing_sorted, gaps_after, joined_parts}

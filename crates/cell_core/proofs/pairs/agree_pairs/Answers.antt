@@ -1,7 +1,7 @@
 use Rattle.std.proofs.Common.{sym, ◌∙◌, subst, Some, true≢false, ◌+◌, ◌≤◌, get_or}
 use Rattle.std.specs.FinMap.Entries.{find}
 use Rattle.cell_core.specs.Keyed.{AgreeIfBoth}
-use Rattle.cell_core.specs.KeyedPlaces.{place_of}
+use Rattle.cell_core.specs.inner.KeyedPlaces.{place_of}
 use Rattle.cell_core.proofs.KeyedPlacesLemmas.{agree_one_more, find_entry, find_at_place}
 use Rattle.cell_core.proofs.KeyedWalkLemmas.{on_after_place, on_after_gap}
 use Rattle.cell_core.proofs.pairs.agree_pairs.Goals as goal

@@ -1,7 +1,7 @@
 use Rattle.std.proofs.Common.{◌<◌, ◌≤◌, length, get_or, take}
 use Rattle.std.specs.FinMap.Entries.{find}
 use Rattle.cell_core.specs.Keyed.{AgreeIfBoth}
-use Rattle.cell_core.specs.KeyedPlaces.{place_of}
+use Rattle.cell_core.specs.inner.KeyedPlaces.{place_of}
 use Rattle.cell_core.proofs.pairs.agree_pairs.Given as goal
 
 abbrev pub invariant-loop-key : goal.invariant-loop-key

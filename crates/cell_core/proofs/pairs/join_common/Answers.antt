@@ -1,6 +1,6 @@
 use Rattle.std.proofs.Common.{subst, ◌+◌, ◌≤◌, get_or, take}
-use Rattle.cell_core.specs.InterleaveMissing.{IsCommonJoined}
-use Rattle.cell_core.specs.KeyedPlaces.{place_of}
+use Rattle.cell_core.specs.inner.InterleaveMissing.{IsCommonJoined}
+use Rattle.cell_core.specs.inner.KeyedPlaces.{place_of}
 use Rattle.cell_core.proofs.Basics.{on_err_always}
 use Rattle.cell_core.proofs.KeyedWalkLemmas.{on_after_place, on_after_gap}
 use Rattle.cell_core.proofs.PairsCommonLemmas.{may_join, stopped_between, stopped_in_join}

@@ -1,6 +1,6 @@
 use Rattle.std.proofs.Common.{◌<◌, ◌≤◌, length, get_or, take}
-use Rattle.cell_core.specs.KeyedPlaces.{place_of}
-use Rattle.cell_core.specs.InterleaveMissing.{IsCommonJoined}
+use Rattle.cell_core.specs.inner.KeyedPlaces.{place_of}
+use Rattle.cell_core.specs.inner.InterleaveMissing.{IsCommonJoined}
 use Rattle.cell_core.proofs.pairs.join_common.Given as goal
 
 abbrev pub invariant-loop-key : goal.invariant-loop-key

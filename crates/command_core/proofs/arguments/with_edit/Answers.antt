@@ -1,7 +1,7 @@
 use Rattle.std.proofs.Common.{refl}
 use Rattle.std.proofs.lemmas.Result.{IfOk-weaker}
 use Rattle.clap.specs.Words.{app_of}
-use Rattle.command_core.specs.ArgumentsWords.{IsCommand}
+use Rattle.command_core.specs.inner.ArgumentsWords.{IsCommand}
 use Rattle.command_core.proofs.ArgumentsLemmas.{added}
 use Rattle.command_core.proofs.arguments.with_edit.Goals as goal
 

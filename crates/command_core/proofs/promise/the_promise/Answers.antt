@@ -1,4 +1,4 @@
-use Rattle.catalogue.specs.Entries.{catalogue_laws}
+use Rattle.catalogue.specs.inner.Entries.{catalogue_laws}
 use Rattle.command_core.proofs.PromiseLemmas.{greatest_held, kept, merged, same_bytes, same_held}
 use Rattle.command_core.proofs.promise.the_promise.Goals as goal
 

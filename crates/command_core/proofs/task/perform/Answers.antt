@@ -8,10 +8,10 @@ use Rattle.front_core.specs.Ask.{AnswersBundle, AnswersFilter, AnswersLookup, Is
 use Rattle.front_core.specs.Ask.{RefusesFilter, RefusesLookup}
 use Rattle.front_core.specs.Translate.{AnswersMissing, AnswersOutdated, IsMissing, IsOutdated}
 use Rattle.front_core.specs.Translate.{RefusesMissing, RefusesOutdated}
-use Rattle.command_core.specs.TaskActs.{Performs}
+use Rattle.command_core.specs.inner.TaskActs.{Performs}
 use Rattle.command_core.specs.TaskReading.{RefusesNothing}
 use Rattle.command_core.specs.OutputStreams.{reads, streams, writes}
-use Rattle.command_core.specs.TaskValues.{task_values}
+use Rattle.command_core.specs.inner.TaskValues.{task_values}
 use Rattle.command_core.proofs.TaskActsLemmas.{treated}
 use Rattle.command_core.proofs.QuestionsLemmas.{asks_as}
 use Rattle.command_core.proofs.task.perform.Goals as goal

@@ -1,6 +1,6 @@
 use Rattle.std.proofs.Common.{◌≡◌, ◌∙◌, subst, sym}
 use Rattle.cell_core.specs.Entry.{EntryKey}
-use Rattle.front_core.specs.Arrivals.{KnowsMore}
+use Rattle.front_core.specs.inner.Arrivals.{KnowsMore}
 use Rattle.front_core.proofs.ArrivalsLemmas.{label_known}
 use Rattle.front_core.proofs.SpareLemmas.{on_ok_at}
 use Rattle.front_core.proofs.arrivals.add_changed.Goals as goal

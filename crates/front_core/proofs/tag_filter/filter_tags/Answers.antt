@@ -2,7 +2,7 @@ use Rattle.std.proofs.Common.{◌∙◌, ap, inr, length, refl, sym}
 use Rattle.std.proofs.lemmas.Result.{err_from_is_err_and}
 use Rattle.lang_core.specs.declared.fault.LangFault.TheVariants as lang
 use Rattle.front_core.specs.Fault.{field_fault}
-use Rattle.front_core.specs.TagFilter.{texts_of}
+use Rattle.front_core.specs.inner.TagFilter.{texts_of}
 use Rattle.front_core.proofs.TagPickLemmas.{as_many}
 use Rattle.front_core.proofs.TagFilterLemmas.{as_many_texts, enough_names}
 use Rattle.front_core.proofs.tag_filter.filter_tags.Goals as goal

@@ -1,7 +1,8 @@
 use Rattle.std.proofs.Common.{◌≡◌, ◌∙◌, ◌++◌, ◌∷◌, codes, decimal, length, rules, sym}
 use Rattle.query_docs.specs.Lines.{line}
 use Rattle.query_docs.proofs.LinesLemmas.{item_there, more_lines}
-use Rattle.front_core.specs.TagFilter.{taken_line, texts_of}
+use Rattle.front_core.specs.TagFilter.{taken_line}
+use Rattle.front_core.specs.inner.TagFilter.{texts_of}
 use Rattle.front_core.proofs.tag_filter.taken.Goals as goal
 use Rattle.front_core.proofs.tag_filter.taken.Goals.{in-Some+in_ok-text-2, in_default}
 

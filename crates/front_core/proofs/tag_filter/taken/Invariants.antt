@@ -1,7 +1,8 @@
 use Rattle.std.proofs.Common.{◌≡◌, ◌++◌, ◌∷◌, codes, decimal, length, take}
 use Rattle.std.specs.Prelude.{flat_map}
 use Rattle.query_docs.specs.Lines.{line}
-use Rattle.front_core.specs.TagFilter.{taken_line, texts_of}
+use Rattle.front_core.specs.TagFilter.{taken_line}
+use Rattle.front_core.specs.inner.TagFilter.{texts_of}
 use Rattle.front_core.proofs.tag_filter.taken.Given as goal
 
 -- the lines of the picks so far

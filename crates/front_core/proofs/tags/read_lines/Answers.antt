@@ -1,7 +1,7 @@
 use Rattle.std.proofs.Common.{◌≡◌, ◌∙◌, ap, false, rules, true}
 use Rattle.std.proofs.lemmas.List.{map-append}
 use Rattle.nego_core.specs.Offer.{is_offered, items_of}
-use Rattle.front_core.specs.TagFilter.{texts_of}
+use Rattle.front_core.specs.inner.TagFilter.{texts_of}
 use Rattle.front_core.proofs.TagsLemmas.{read_on, read_over}
 use Rattle.front_core.proofs.tags.read_lines.Goals as goal
 

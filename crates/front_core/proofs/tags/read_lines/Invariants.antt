@@ -1,6 +1,6 @@
 use Rattle.docs_core.specs.Lines.{lines_left, lines_of}
 use Rattle.nego_core.specs.Offer.{items_of}
-use Rattle.front_core.specs.TagFilter.{texts_of}
+use Rattle.front_core.specs.inner.TagFilter.{texts_of}
 use Rattle.front_core.proofs.TagsLemmas.{IsReadTo}
 use Rattle.front_core.proofs.tags.read_lines.Given as goal
 

@@ -1,5 +1,5 @@
 use Rattle.std.proofs.Common.{◌≡◌, take}
-use Rattle.front_core.specs.TagFilter.{texts_of}
+use Rattle.front_core.specs.inner.TagFilter.{texts_of}
 use Rattle.front_core.proofs.words.names_of.Given as goal
 
 -- the texts of the languages so far

@@ -3,8 +3,8 @@ use Rattle.std.specs.Prelude.{◌||◌}
 use Rattle.std.specs.Str.{str_to_ascii_lowercase}
 use Rattle.lang_core.specs.Text.{subtags, pieces}
 use Rattle.lang_core.specs.Grammar.{tag_piece, is_irregular, are_allowed}
-use Rattle.lang_core.specs.Pieces.{pieces_left}
-use Rattle.lang_core.specs.Stage.{accepts, stage_after}
+use Rattle.lang_core.specs.inner.Pieces.{pieces_left}
+use Rattle.lang_core.specs.inner.Stage.{accepts, stage_after}
 use Rattle.lang_core.specs.declared.stage.Stage.TheVariants.{Start}
 use Rattle.lang_core.proofs.SubtagCaseLemmas.{lowered}
 use Rattle.lang_core.proofs.PiecesLemmas.{pieces-lower}

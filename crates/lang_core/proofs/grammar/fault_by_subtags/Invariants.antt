@@ -1,8 +1,8 @@
 use Rattle.std.proofs.Common.{◌≡◌, ℕ, Some}
 use Rattle.lang_core.specs.Text.{subtags}
 use Rattle.lang_core.specs.Grammar.{tag_piece}
-use Rattle.lang_core.specs.Pieces.{pieces_left}
-use Rattle.lang_core.specs.Stage.{accepts}
+use Rattle.lang_core.specs.inner.Pieces.{pieces_left}
+use Rattle.lang_core.specs.inner.Stage.{accepts}
 use Rattle.lang_core.specs.declared.stage.Stage.TheVariants.{Start}
 use Rattle.lang_core.proofs.SubtagCaseLemmas.{lowered}
 use Rattle.lang_core.proofs.PiecesWalk.{IsWalked}

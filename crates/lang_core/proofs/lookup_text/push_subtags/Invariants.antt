@@ -1,6 +1,6 @@
 use Rattle.std.proofs.Common.{◌≡◌, ◌++◌}
 use Rattle.std.specs.String.{string_bytes}
-use Rattle.lang_core.specs.LookupText.{hyphened}
+use Rattle.lang_core.specs.inner.LookupText.{hyphened}
 use Rattle.lang_core.specs.Matching.{without_stars}
 use Rattle.lang_core.specs.Subtags.{subtags_left}
 use Rattle.lang_core.proofs.lookup_text.push_subtags.Given as goal

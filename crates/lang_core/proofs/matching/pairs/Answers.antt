@@ -1,6 +1,6 @@
 use Rattle.std.proofs.Common.{rules, ◌≡◌, sym, ◌∙◌, ap, [], List, ℕ}
 use Rattle.std.specs.Prelude.{◌&&◌}
-use Rattle.lang_core.specs.Pieces.{pieces_left}
+use Rattle.lang_core.specs.inner.Pieces.{pieces_left}
 use Rattle.lang_core.specs.Matching.{greedy}
 use Rattle.lang_core.proofs.MatchingEmbedding.{greedy_all, greedy_star}
 use Rattle.lang_core.proofs.matching.pairs.Goals as goal

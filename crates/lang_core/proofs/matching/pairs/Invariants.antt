@@ -1,5 +1,5 @@
 use Rattle.std.proofs.Common.{◌≡◌}
-use Rattle.lang_core.specs.Pieces.{pieces_left}
+use Rattle.lang_core.specs.inner.Pieces.{pieces_left}
 use Rattle.lang_core.specs.Matching.{greedy}
 use Rattle.lang_core.proofs.matching.pairs.Given as goal
 

@@ -1,6 +1,6 @@
 use Rattle.std.proofs.Common.{◌≡◌, ◌∷◌, [], true, false, ◌∙◌, sym, ap, length, arith}
 use Rattle.lang_core.specs.Text.{pieces, subtags}
-use Rattle.lang_core.specs.TagTable.{is_staged}
+use Rattle.lang_core.specs.inner.TagTable.{is_staged}
 use Rattle.lang_core.specs.Subtags.{subtags_left}
 use Rattle.std.proofs.lemmas.Slice.Eq.{bytes_eq-Decides}
 use Rattle.lang_core.proofs.PartsLemmas.{unstaged, no_langtag, staged_langtag}

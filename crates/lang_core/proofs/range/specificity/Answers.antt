@@ -1,6 +1,6 @@
 use Rattle.std.proofs.Common.{arith, inl, ◌≡◌, ◌≤◌, ◌+◌, length, ap, ◌∙◌}
 use Rattle.lang_core.specs.Text.{pieces}
-use Rattle.lang_core.specs.Pieces.{pieces_left}
+use Rattle.lang_core.specs.inner.Pieces.{pieces_left}
 use Rattle.lang_core.proofs.PiecesLemmas.{few_pieces}
 use Rattle.lang_core.proofs.range.specificity.Goals as goal
 

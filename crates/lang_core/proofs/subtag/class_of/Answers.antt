@@ -1,5 +1,5 @@
 use Rattle.std.proofs.Common.{ℕ, ◌≡◌, ◌≤◌, get_or, refl, sym, ◌∙◌, ap, subst, arith}
-use Rattle.lang_core.specs.Subtag.{class_of}
+use Rattle.lang_core.specs.inner.Subtag.{class_of}
 use Rattle.lang_core.specs.declared.subtag.TheConstants.{CLASSES}
 use Rattle.lang_core.proofs.SubtagClassSums.{from_table, small_class}
 use Rattle.lang_core.proofs.subtag.class_of.Goals as goal

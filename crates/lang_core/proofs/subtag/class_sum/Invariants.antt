@@ -1,5 +1,5 @@
 use Rattle.std.proofs.Common.{◌≡◌, ◌≤◌, ◌*◌, take, sum_by}
-use Rattle.lang_core.specs.Subtag.{class_of}
+use Rattle.lang_core.specs.inner.Subtag.{class_of}
 use Rattle.lang_core.proofs.subtag.class_sum.Given as goal
 
 abbrev pub invariant-loop-byte : goal.invariant-loop-byte

@@ -1,6 +1,6 @@
 use Rattle.std.proofs.Common.{arith, ◌∙◌, sym, subst, List, ℕ}
 use Rattle.lang_core.specs.Text.{pieces}
-use Rattle.lang_core.specs.Kind.{is_of}
+use Rattle.lang_core.specs.inner.Kind.{is_of}
 use Rattle.lang_core.specs.Subtags.{subtags_left}
 use Rattle.lang_core.proofs.SubtagsRunsLemmas.{IsRunSoFar, run_fits, run_on}
 use Rattle.lang_core.proofs.subtags.run_len.Goals as goal

@@ -1,5 +1,5 @@
 use Rattle.lang_core.specs.Text.{pieces}
-use Rattle.lang_core.specs.Kind.{is_of}
+use Rattle.lang_core.specs.inner.Kind.{is_of}
 use Rattle.lang_core.specs.Subtags.{subtags_left}
 use Rattle.lang_core.proofs.SubtagsRunsLemmas.{IsRunSoFar}
 use Rattle.lang_core.proofs.subtags.run_len.Given as goal

@@ -1,6 +1,6 @@
 use Rattle.std.proofs.Common.{◌≡◌, true, sym, ◌∙◌}
 use Rattle.lang_core.specs.Text.{subtags}
-use Rattle.lang_core.specs.TagTable.{is_staged}
+use Rattle.lang_core.specs.inner.TagTable.{is_staged}
 use Rattle.lang_core.proofs.GrammarLemmas.{staged_is_tag}
 use Rattle.lang_core.proofs.tag.tag_fault.Goals as goal
 

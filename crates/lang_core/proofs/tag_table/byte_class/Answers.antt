@@ -1,5 +1,5 @@
 use Rattle.std.proofs.Common.{ℕ, ◌≡◌, ◌<◌, get_or, refl, sym, ◌∙◌, ap, subst, arith}
-use Rattle.lang_core.specs.TagTable.{byte_class}
+use Rattle.lang_core.specs.inner.TagTable.{byte_class}
 use Rattle.lang_core.specs.declared.tag_table.TheConstants.{CLASSES}
 use Rattle.lang_core.proofs.TagTableLemmas.{class_from_table, small_class}
 use Rattle.lang_core.proofs.tag_table.byte_class.Goals as goal

@@ -2,7 +2,7 @@ use Rattle.std.proofs.Common.{ℕ, ◌≡◌, ◌+◌, ◌*◌, ◌<◌, ◌++�
 use Rattle.std.proofs.Common.{sym, ◌∙◌, ap, arith}
 use Rattle.std.specs.Prelude.{nat_le}
 use Rattle.std.proofs.lemmas.List.{take_all, take_more}
-use Rattle.lang_core.specs.TagTable.{byte_class}
+use Rattle.lang_core.specs.inner.TagTable.{byte_class}
 use Rattle.lang_core.specs.declared.tag_table.TheConstants.{NEXT}
 use Rattle.lang_core.proofs.TagTableLemmas.{usual, state_of, grows, ends, stops, fits, all_fit}
 use Rattle.lang_core.proofs.TagTableLemmas.{is_table, run, run_push, small_state, staged}

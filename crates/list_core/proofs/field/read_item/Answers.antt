@@ -1,5 +1,5 @@
 use Rattle.std.proofs.Common.{rules, ◌++◌}
-use Rattle.list_core.specs.Field.{HasStart}
+use Rattle.list_core.specs.inner.Field.{HasStart}
 use Rattle.list_core.proofs.FieldRangeEndLemmas.{no_begun_range, no_begun_weight, has_begun_item}
 use Rattle.list_core.proofs.field.read_item.Goals as goal
 

@@ -1,6 +1,6 @@
 use Rattle.std.proofs.Common.{rules, ◌≡◌, ◌<◌, ◌-◌, ◌++◌, length, take, arith, ap}
-use Rattle.list_core.specs.Field.{BeginsOverlong}
-use Rattle.list_core.specs.Field.{HasElement, RefusesField, IsFirstPiece}
+use Rattle.list_core.specs.Field.{HasElement, RefusesField}
+use Rattle.list_core.specs.inner.Field.{BeginsOverlong, IsFirstPiece}
 use Rattle.list_core.specs.declared.fault.NegoFault.TheVariants.{FieldMalformed}
 use Rattle.list_core.proofs.FieldSeparatorLemmas.{BeginsElement, walked_from, begins_element}
 use Rattle.list_core.proofs.FieldSeparatorLemmas.{element_read}

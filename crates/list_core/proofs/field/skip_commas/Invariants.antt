@@ -1,5 +1,5 @@
 use Rattle.std.proofs.Common.{◌≡◌, ◌≤◌, length}
-use Rattle.list_core.specs.Field.{skip_separators}
+use Rattle.list_core.specs.inner.Field.{skip_separators}
 use Rattle.list_core.proofs.field.skip_commas.Given as goal
 
 abbrev pub invariant-loop-others : goal.invariant-loop-others

@@ -1,5 +1,5 @@
 use Rattle.std.proofs.Common.{◌≡◌, ◌≤◌, drop, length}
-use Rattle.list_core.specs.PackedTag.{packed}
+use Rattle.list_core.specs.inner.PackedTag.{packed}
 use Rattle.list_core.proofs.packed_tag.pack.Given as goal
 
 abbrev pub invariant-loop-place : goal.invariant-loop-place

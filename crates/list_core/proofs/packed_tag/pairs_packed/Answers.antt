@@ -2,7 +2,7 @@ use Rattle.std.proofs.Common.{rules, ◌≡◌, ◌∙◌, ap, sym, [], ◌∷�
 use Rattle.std.specs.List.{list_all}
 use Rattle.lang_core.specs.Grammar.{AreAll}
 use Rattle.lang_core.specs.Subtags.{subtags_left}
-use Rattle.list_core.specs.PackedTag.{is_packable, packed, all_packed, greedy_packed}
+use Rattle.list_core.specs.inner.PackedTag.{is_packable, packed, all_packed, greedy_packed}
 use Rattle.lang_core.proofs.Basics.{each_true}
 use Rattle.list_core.proofs.PackedTagLemmas.{number_all, number_star}
 use Rattle.list_core.proofs.packed_tag.pairs_packed.Goals as goal

@@ -1,5 +1,5 @@
 use Rattle.std.proofs.Common.{ℕ, ◌≡◌, List, ◌∷◌, ◌-◌, drop, length}
-use Rattle.list_core.specs.PackedTag.{greedy_packed}
+use Rattle.list_core.specs.inner.PackedTag.{greedy_packed}
 use Rattle.list_core.proofs.packed_tag.place_after.Given as goal
 
 abbrev pub invariant-loop-place : goal.invariant-loop-place

@@ -1,5 +1,5 @@
 use Rattle.std.proofs.Common.{◌≡◌, length}
-use Rattle.list_core.specs.Weight.{skip_blanks}
+use Rattle.list_core.specs.inner.Weight.{skip_blanks}
 use Rattle.list_core.proofs.weight.trim_start.Given as goal
 
 abbrev pub invariant-loop-rest : goal.invariant-loop-rest

@@ -12,7 +12,7 @@ use Rattle.json_docs.proofs.ScanningReadingLemmas.{member_read, members_over}
 use Rattle.map_docs.specs.MapsLabels.{languages_of}
 use Rattle.map_docs.specs.MembersRows.{Keys, keys_of, strings_in}
 use Rattle.map_docs.specs.Maps.{Labelled}
-use Rattle.map_docs.specs.AscendingLabels.{Takes}
+use Rattle.map_docs.specs.inner.AscendingLabels.{Takes}
 use Rattle.map_docs.proofs.AscendingLemmas.{AreAscendingKeys, key_above, keys_next, member_behind}
 use Rattle.map_docs.proofs.AscendingLemmas.{no_keys, takes_next, takes_none}
 use Rattle.map_docs.proofs.ascending.take_languages.Goals as goal

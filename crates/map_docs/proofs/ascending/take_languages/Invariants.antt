@@ -5,7 +5,7 @@ use Rattle.json.specs.Json.{members, value}
 use Rattle.serde_json.specs.Data.{Members, no_members}
 use Rattle.serde_json.specs.Read.{converted, of_members}
 use Rattle.map_docs.specs.MembersRows.{keys_of}
-use Rattle.map_docs.specs.AscendingLabels.{Takes}
+use Rattle.map_docs.specs.inner.AscendingLabels.{Takes}
 use Rattle.map_docs.proofs.AscendingLemmas.{AreAscendingKeys}
 use Rattle.map_docs.proofs.ascending.take_languages.Given as goal
 

@@ -2,8 +2,8 @@ use Rattle.std.proofs.Common.{◌≡◌, ◌∷◌, List, ℕ, ap, arith, length
 use Rattle.json.specs.Token.{begin_object}
 use Rattle.json_docs.proofs.ObjectMembersLemmas.{object_read}
 use Rattle.map_docs.specs.MembersRows.{keys_of}
-use Rattle.map_docs.specs.MembersRowsSeen.{AreLesser}
-use Rattle.map_docs.specs.AscendingLabels.{IsUnder}
+use Rattle.map_docs.specs.inner.MembersRowsSeen.{AreLesser}
+use Rattle.map_docs.specs.inner.AscendingLabels.{IsUnder}
 use Rattle.map_docs.proofs.ascending.take_message.Goals as goal
 
 -- the id is the name

@@ -3,7 +3,7 @@ use Rattle.std.proofs.lemmas.List.Sorted.{IsPermutation-refl}
 use Rattle.json.specs.Lex.{tokens}
 use Rattle.json.specs.Token.{begin_object}
 use Rattle.serde_json.specs.Data.{object}
-use Rattle.json_docs.specs.ObjectMembersRead.{ReadsMembers}
+use Rattle.json_docs.specs.inner.ObjectMembersRead.{ReadsMembers}
 use Rattle.json_docs.proofs.TextWholeLemmas.{object_whole}
 use Rattle.map_docs.specs.MapsLabels.{rows_labels}
 use Rattle.map_docs.specs.MembersRows.{message_rows}

@@ -6,7 +6,7 @@ use Rattle.std.specs.Prelude.{is_some}
 use Rattle.cell_core.specs.Entry.{text_cmp}
 use Rattle.cell_core.specs.Label.{texts_of}
 use Rattle.map_docs.specs.MembersRows.{Strings}
-use Rattle.map_docs.specs.MembersRowsSeen.{HoldsKeys, strings_seen}
+use Rattle.map_docs.specs.inner.MembersRowsSeen.{HoldsKeys, strings_seen}
 use Rattle.map_docs.proofs.MapsLabelsLemmas.{HoldsKeys-next, key_passes, label_fails}
 use Rattle.map_docs.proofs.MapsLabelsLemmas.{language_fails, lower_of, repeated_fails}
 use Rattle.map_docs.proofs.MapsLabelsLemmas.{shape_fails}

@@ -2,7 +2,7 @@ use Rattle.std.proofs.Common.{◌∙◌, ◌++◌, List, ℕ, ap, string_bytes, 
 use Rattle.cell_core.specs.Keyed.{IsMap}
 use Rattle.cell_core.specs.Entry.{key_cmp}
 use Rattle.catalogue.specs.CatalogueFlat.{under}
-use Rattle.map_docs.specs.MembersRowsSeen.{keys_in_seen, keys_seen, live}
+use Rattle.map_docs.specs.inner.MembersRowsSeen.{keys_in_seen, keys_seen, live}
 use Rattle.map_docs.proofs.MapsLabelsLemmas.{after_IsMap, live_IsMap, message_added}
 use Rattle.map_docs.proofs.labels.add_message.Goals as goal
 

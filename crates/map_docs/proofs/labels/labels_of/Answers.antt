@@ -5,7 +5,7 @@ use Rattle.std.proofs.lemmas.Result.{err_from_is_err_and}
 use Rattle.json_docs.specs.FaultChecks.{AllPass, FirstFails}
 use Rattle.map_docs.specs.LabelsChecks.{members_checks}
 use Rattle.map_docs.specs.MembersRows.{Rows}
-use Rattle.map_docs.specs.MembersRowsSeen.{AreSorted, HeldKeys, keys_in_seen, rows_seen}
+use Rattle.map_docs.specs.inner.MembersRowsSeen.{AreSorted, HeldKeys, keys_in_seen, rows_seen}
 use Rattle.map_docs.specs.Maps.{Labelled}
 use Rattle.map_docs.proofs.MapsLabelsLemmas.{HoldsRows, HoldsRows-next, HoldsRows-none}
 use Rattle.map_docs.proofs.MapsLabelsLemmas.{first_lesser, else_by, one_further, rows_fail}

@@ -2,7 +2,7 @@ use Rattle.std.proofs.Common.{◌≡◌, List, String, Global, Option, length, �
 use Rattle.std.specs.Vec.Iter.{into_iter_items}
 use Rattle.json_docs.specs.FaultChecks.{AllPass}
 use Rattle.map_docs.specs.LabelsChecks.{members_checks}
-use Rattle.map_docs.specs.MembersRowsSeen.{HeldKeys, rows_seen}
+use Rattle.map_docs.specs.inner.MembersRowsSeen.{HeldKeys, rows_seen}
 use Rattle.map_docs.proofs.MapsLabelsLemmas.{HoldsRows}
 use Rattle.map_docs.proofs.labels.labels_of.Given as goal
 

@@ -4,7 +4,7 @@ use Rattle.std.specs.Vec.Iter.{into_iter_items}
 use Rattle.json_docs.specs.FaultChecks.{AllPass, FirstFails}
 use Rattle.map_docs.specs.LabelsChecks.{keys_checks}
 use Rattle.map_docs.specs.MembersRows.{Keys}
-use Rattle.map_docs.specs.MembersRowsSeen.{HoldsKeys, keys_seen, strings_seen}
+use Rattle.map_docs.specs.inner.MembersRowsSeen.{HoldsKeys, keys_seen, strings_seen}
 use Rattle.map_docs.proofs.MapsLabelsLemmas.{else_by, keys_fail, keys_pass, keys_seen_after}
 use Rattle.map_docs.proofs.MapsLabelsLemmas.{one_further}
 use Rattle.map_docs.proofs.labels.languages_of.Goals as goal

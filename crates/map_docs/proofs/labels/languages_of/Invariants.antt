@@ -2,7 +2,7 @@ use Rattle.std.proofs.Common.{◌≡◌, List, String, Global, [], ◌++◌}
 use Rattle.std.specs.Vec.Iter.{into_iter_items}
 use Rattle.json_docs.specs.FaultChecks.{AllPass}
 use Rattle.map_docs.specs.LabelsChecks.{keys_checks}
-use Rattle.map_docs.specs.MembersRowsSeen.{HeldStrings, HoldsKeys, keys_seen}
+use Rattle.map_docs.specs.inner.MembersRowsSeen.{HeldStrings, HoldsKeys, keys_seen}
 use Rattle.map_docs.proofs.labels.languages_of.Given as goal
 
 -- the keys so far pass, and are held

@@ -3,7 +3,7 @@ use Rattle.cell_core.specs.Keyed.{IsMap}
 use Rattle.cell_core.specs.Entry.{key_cmp}
 use Rattle.catalogue.specs.Entries.{IsAboveAll}
 use Rattle.catalogue.specs.CatalogueFlat.{under}
-use Rattle.map_docs.specs.MembersRowsSeen.{Found, live}
+use Rattle.map_docs.specs.inner.MembersRowsSeen.{Found, live}
 use Rattle.map_docs.proofs.MapsLabelsLemmas.{above_front}
 use Rattle.map_docs.proofs.labels.push_languages.Goals as goal
 

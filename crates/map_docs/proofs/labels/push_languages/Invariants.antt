@@ -2,7 +2,7 @@ use Rattle.std.proofs.Common.{◌≡◌, ◌++◌}
 use Rattle.cell_core.specs.Keyed.{IsMap}
 use Rattle.cell_core.specs.Entry.{key_cmp}
 use Rattle.catalogue.specs.CatalogueFlat.{under}
-use Rattle.map_docs.specs.MembersRowsSeen.{live}
+use Rattle.map_docs.specs.inner.MembersRowsSeen.{live}
 use Rattle.map_docs.proofs.labels.push_languages.Given as goal
 
 -- what was put, and what is left to put, ascend

@@ -5,8 +5,8 @@ use Rattle.std.proofs.lemmas.Result.{err_from_is_err_and}
 use Rattle.json.specs.Json.{read_key, value}
 use Rattle.json.proofs.Grammar.{read_key-shorter}
 use Rattle.serde_json.specs.Data.{no_members, put}
-use Rattle.map_docs.specs.AscendingMap.{entries_of}
-use Rattle.map_docs.specs.MembersRowsSeen.{AreSorted, members_seen}
+use Rattle.map_docs.specs.inner.AscendingMap.{entries_of}
+use Rattle.map_docs.specs.inner.MembersRowsSeen.{AreSorted, members_seen}
 use Rattle.map_docs.proofs.AscendingMapLemmas.{none_sorted}
 use Rattle.json_docs.proofs.ScanningArraysLemmas.{not_json}
 use Rattle.json_docs.proofs.ScanningReadingLemmas.{key_refused, member_read, member_refused}

@@ -4,8 +4,8 @@ use Rattle.serde_json.specs.Data.{Members, no_members}
 use Rattle.serde_json.specs.Read.{converted, of_members}
 use Rattle.json_docs.specs.Numbers.{are_in_range}
 use Rattle.map_docs.specs.MembersRows.{members_by}
-use Rattle.map_docs.specs.AscendingMap.{entries_of}
-use Rattle.map_docs.specs.MembersRowsSeen.{AreSorted, members_seen}
+use Rattle.map_docs.specs.inner.AscendingMap.{entries_of}
+use Rattle.map_docs.specs.inner.MembersRowsSeen.{AreSorted, members_seen}
 use Rattle.map_docs.proofs.members.read_members.Given as goal
 
 -- the object is the members that were read, and then what is left

@@ -1,6 +1,6 @@
 use Rattle.std.proofs.Common.{take}
 use Rattle.nego_core.specs.Filtering.{texts_of}
-use Rattle.nego_core.specs.Shortlist.{AreMatchedLangs}
+use Rattle.nego_core.specs.inner.Shortlist.{AreMatchedLangs}
 use Rattle.nego_core.proofs.shortlist.all_matched.Given as goal
 
 abbrev pub invariant-loop-lang : goal.invariant-loop-lang

@@ -1,7 +1,7 @@
 use Rattle.std.proofs.Common.{subst}
 use Rattle.nego_core.specs.Offer.{items_of}
 use Rattle.catalogue.specs.EntriesOffered.{offered_cells}
-use Rattle.query_docs.specs.BundleByMessage.{default_of}
+use Rattle.query_docs.specs.inner.BundleByMessage.{default_of}
 use Rattle.query_docs.specs.Bundling.{IsBundleBy}
 use Rattle.query_docs.specs.declared.bundle_by_message.Bundle.{Bundle}
 use Rattle.query_docs.proofs.bundle_by_message.bundle_by_message.Goals as goal

@@ -3,8 +3,8 @@ use Rattle.std.proofs.Common.{sym, take}
 use Rattle.std.proofs.Math.Seq.{take-length}
 use Rattle.catalogue.proofs.Basics.{append_nil}
 use Rattle.map_docs.specs.Maps.{Labelled}
-use Rattle.query_docs.specs.ByMessage.{cell_of, cells_of}
-use Rattle.query_docs.specs.Draft.{HasWritten, labelled_by}
+use Rattle.query_docs.specs.inner.ByMessage.{cell_of, cells_of}
+use Rattle.query_docs.specs.inner.Draft.{HasWritten, labelled_by}
 use Rattle.query_docs.specs.Exporting.{live_labels}
 use Rattle.query_docs.proofs.ByMessageLemmas.{cells_to}
 use Rattle.query_docs.proofs.DraftLemmas.{live_more}

@@ -1,7 +1,7 @@
 use Rattle.std.proofs.Common.{◌++◌, List, take}
 use Rattle.map_docs.specs.Maps.{Labelled}
-use Rattle.query_docs.specs.ByMessage.{cells_of}
-use Rattle.query_docs.specs.Draft.{HasWritten}
+use Rattle.query_docs.specs.inner.ByMessage.{cells_of}
+use Rattle.query_docs.specs.inner.Draft.{HasWritten}
 use Rattle.query_docs.specs.Exporting.{live_labels}
 use Rattle.query_docs.proofs.chosen.add_all.Given as goal
 

@@ -1,6 +1,6 @@
 use Rattle.std.proofs.Common.{subst}
 use Rattle.map_docs.specs.WritingTexts.{AreWritten}
-use Rattle.query_docs.specs.Chosen.{chosen_labels}
+use Rattle.query_docs.specs.inner.Chosen.{chosen_labels}
 use Rattle.query_docs.specs.declared.messages.Messages.{Messages}
 use Rattle.query_docs.proofs.chosen.chosen_document.Goals as goal
 

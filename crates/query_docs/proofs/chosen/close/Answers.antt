@@ -1,5 +1,5 @@
 use Rattle.std.proofs.lemmas.Result.{IfOk-weaker}
-use Rattle.query_docs.specs.Chosen.{chosen_labels}
+use Rattle.query_docs.specs.inner.Chosen.{chosen_labels}
 use Rattle.query_docs.proofs.ExportingLemmas.{chosen-IsMap}
 use Rattle.query_docs.proofs.chosen.close.Goals as goal
 

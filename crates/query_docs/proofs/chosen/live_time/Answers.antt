@@ -1,6 +1,6 @@
 use Rattle.std.proofs.Common.{◌∙◌, ◌+◌, List, ap, drop, refl, sym}
 use Rattle.std.specs.Ordering.{is_eq}
-use Rattle.query_docs.specs.ByMessage.{cells_of}
+use Rattle.query_docs.specs.inner.ByMessage.{cells_of}
 use Rattle.query_docs.specs.Outdated.{live_time}
 use Rattle.query_docs.specs.declared.by_message.MessageCell.{MessageCell}
 use Rattle.query_docs.proofs.ByMessageLemmas.{cells_from}

@@ -1,5 +1,5 @@
 use Rattle.std.proofs.Common.{◌≡◌, ℕ, List, drop}
-use Rattle.query_docs.specs.ByMessage.{cells_of}
+use Rattle.query_docs.specs.inner.ByMessage.{cells_of}
 use Rattle.query_docs.specs.Outdated.{live_time}
 use Rattle.query_docs.proofs.chosen.live_time.Given as goal
 

@@ -1,7 +1,7 @@
 use Rattle.std.proofs.Common.{subst}
 use Rattle.std.proofs.lemmas.Result.{IfOk-weaker}
 use Rattle.map_docs.specs.WritingTexts.{AreWritten}
-use Rattle.query_docs.specs.Chosen.{chosen_labels}
+use Rattle.query_docs.specs.inner.Chosen.{chosen_labels}
 use Rattle.query_docs.specs.declared.messages.Messages.{Messages}
 use Rattle.query_docs.proofs.chosen.write_chosen.Goals as goal
 

@@ -1,7 +1,7 @@
 use Rattle.std.proofs.Common.{take}
 use Rattle.nego_core.specs.WidenedChoice.{MatchEarliest}
 use Rattle.catalogue.specs.Live.{languages}
-use Rattle.query_docs.specs.LiveCells.{labels_of}
+use Rattle.query_docs.specs.inner.LiveCells.{labels_of}
 use Rattle.query_docs.proofs.live_cells.earliest_of.Given as goal
 
 -- the earliest of the cells so far

@@ -5,7 +5,7 @@ use Rattle.std.specs.FinMap.Entries.{find}
 use Rattle.cell_core.specs.KeyedFound.{with_key}
 use Rattle.cell_core.specs.Entry.{text_cmp}
 use Rattle.site_docs.specs.Sink.{IsLabelRef}
-use Rattle.query_docs.specs.LiveCells.{labels_of}
+use Rattle.query_docs.specs.inner.LiveCells.{labels_of}
 use Rattle.query_docs.specs.declared.by_message.MessageCell.{MessageCell}
 use Rattle.query_docs.proofs.ByMessageLemmas.{cells_from}
 use Rattle.query_docs.proofs.LiveCellsLemmas.{found_after, found_here}

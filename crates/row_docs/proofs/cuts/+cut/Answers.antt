@@ -4,7 +4,7 @@ use Rattle.json.specs.Json.{parse_map, value}
 use Rattle.json.specs.Reads.{token_of}
 use Rattle.json.specs.Token.{begin_array, begin_object}
 use Rattle.serde_json.specs.Data.{array, no_items, object}
-use Rattle.row_docs.specs.CutsSeen.{Keeps}
+use Rattle.row_docs.specs.inner.CutsSeen.{Keeps}
 use Rattle.row_docs.specs.declared.cuts.Kept.{Kept}
 use Rattle.lang_core.proofs.Basics.{not_false, true_not}
 use Rattle.json_docs.proofs.ObjectMembersLemmas.{both_weaker, range_after}

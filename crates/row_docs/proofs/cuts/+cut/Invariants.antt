@@ -4,7 +4,7 @@ use Rattle.serde_json.specs.Data.{Data}
 use Rattle.serde_json.specs.Read.{converted, of_items}
 use Rattle.json_docs.specs.Numbers.{are_in_range}
 use Rattle.json_docs.proofs.ScanningArraysLemmas.{before}
-use Rattle.row_docs.specs.CutsSeen.{Keeps}
+use Rattle.row_docs.specs.inner.CutsSeen.{Keeps}
 use Rattle.row_docs.proofs.cuts.+cut.Given as goal
 
 abbrev pub decreases-next_cut : goal.decreases-next_cut

@@ -1,5 +1,5 @@
 use Rattle.std.proofs.Common.{◌≡◌, ◌∙◌, ◌++◌, ◌∷◌, [], ◌&&◌, ap, arith, subst, suc, sym}
-use Rattle.row_docs.specs.CutsSeen.{KeepsBy}
+use Rattle.row_docs.specs.inner.CutsSeen.{KeepsBy}
 use Rattle.row_docs.proofs.CutsLemmas.{as_str-cut}
 use Rattle.row_docs.proofs.CutsReadLemmas.{KeepsItems-misfit, KeepsItems-push, is_some-seen}
 use Rattle.row_docs.proofs.cuts.with_item.Goals as goal

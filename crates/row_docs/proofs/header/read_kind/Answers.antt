@@ -1,6 +1,6 @@
 use Rattle.std.proofs.Common.{◌∙◌, ap}
 use Rattle.serde_json.specs.Find.{as_str}
-use Rattle.row_docs.specs.HeaderSeen.{is_text}
+use Rattle.row_docs.specs.inner.HeaderSeen.{is_text}
 use Rattle.row_docs.specs.Kinds.{kind_text}
 use Rattle.row_docs.proofs.CutsLemmas.{as_str-cut}
 use Rattle.row_docs.proofs.header.read_kind.Goals as goal

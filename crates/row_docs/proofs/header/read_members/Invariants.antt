@@ -3,7 +3,7 @@ use Rattle.json.specs.Json.{members, value}
 use Rattle.serde_json.specs.Data.{Members, no_members}
 use Rattle.serde_json.specs.Read.{converted, of_members}
 use Rattle.json_docs.specs.Numbers.{are_in_range}
-use Rattle.row_docs.specs.HeaderSeen.{Shows}
+use Rattle.row_docs.specs.inner.HeaderSeen.{Shows}
 use Rattle.row_docs.proofs.header.read_members.Given as goal
 
 -- the members that were read, and what is left

@@ -1,5 +1,5 @@
 use Rattle.std.proofs.Common.{arith, refl, subst, sym}
-use Rattle.row_docs.specs.PlainTexts.{IsDigitAt}
+use Rattle.row_docs.specs.inner.PlainTexts.{IsDigitAt}
 use Rattle.row_docs.proofs.PlainTextsLemmas.{first_digit, next_digit}
 use Rattle.row_docs.proofs.plain_texts.leading_number.Goals as goal
 

@@ -1,5 +1,5 @@
 use Rattle.std.proofs.Common.{◌-◌, ◌<◌, length}
-use Rattle.row_docs.specs.PlainTexts.{IsDecimalFront}
+use Rattle.row_docs.specs.inner.PlainTexts.{IsDecimalFront}
 use Rattle.row_docs.proofs.plain_texts.leading_number.Given as goal
 
 -- the digits so far are the number

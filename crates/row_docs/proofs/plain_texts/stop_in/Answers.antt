@@ -1,6 +1,6 @@
 use Rattle.std.proofs.Common.{◌+◌, arith, subst, sym}
 use lib.Count.{count_trailing_zeros}
-use Rattle.row_docs.specs.PlainTexts.{IsFirstStop}
+use Rattle.row_docs.specs.inner.PlainTexts.{IsFirstStop}
 use Rattle.row_docs.proofs.PlainTextsLemmas.{first_in_block, none_in_block}
 use Rattle.row_docs.proofs.plain_texts.stop_in.Goals as goal
 

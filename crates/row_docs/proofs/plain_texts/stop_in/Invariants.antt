@@ -1,5 +1,5 @@
 use Rattle.std.proofs.Common.{◌-◌, ◌≤◌, length}
-use Rattle.row_docs.specs.PlainTexts.{IsPlainBefore}
+use Rattle.row_docs.specs.inner.PlainTexts.{IsPlainBefore}
 use Rattle.row_docs.proofs.plain_texts.stop_in.Given as goal
 
 abbrev pub invariant-loop-from : goal.invariant-loop-from

@@ -1,7 +1,8 @@
 use Rattle.std.proofs.Common.{◌∷◌, map, take}
 use Rattle.json.specs.Token.{begin_array}
 use Rattle.serde_json.specs.Data.{string}
-use Rattle.row_docs.specs.WritingTexts.{Adds, row_tokens}
+use Rattle.row_docs.specs.WritingTexts.{Adds}
+use Rattle.row_docs.specs.inner.WritingTexts.{row_tokens}
 use Rattle.cell_core.specs.Label.{texts_of}
 use Rattle.row_docs.proofs.writing.write_texts.Given as goal
 

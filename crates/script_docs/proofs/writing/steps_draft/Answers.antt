@@ -1,6 +1,6 @@
 use Rattle.std.proofs.Common.{◌≡◌, ◌<◌, ℕ, [], ap, arith, get_or, length, subst}
 use Rattle.std.proofs.lemmas.Result.{err_from_is_err_and}
-use Rattle.script_docs.specs.Writing.{HoldsSteps}
+use Rattle.script_docs.specs.inner.Writing.{HoldsSteps}
 use Rattle.script_docs.proofs.WritingLemmas.{row_more, writing_refused}
 use Rattle.script_docs.proofs.writing.steps_draft.Goals as goal
 

@@ -1,5 +1,5 @@
 use Rattle.std.proofs.Common.{take}
-use Rattle.script_docs.specs.Writing.{HasRows}
+use Rattle.script_docs.specs.inner.Writing.{HasRows}
 use Rattle.script_docs.proofs.writing.steps_draft.Given as goal
 
 -- the steps so far are written

@@ -4,7 +4,7 @@ use Rattle.std.specs.Ordering.{ordering_then}
 use Rattle.cell_core.specs.Entry.{EntryKey, key_cmp}
 use Rattle.cata_core.proofs.SummaryListsLemmas.{not_greater_self}
 use Rattle.summary_docs.specs.Shown.{known_in}
-use Rattle.summary_docs.specs.ShownCells.{known_as}
+use Rattle.summary_docs.specs.inner.ShownCells.{known_as}
 use Rattle.summary_docs.proofs.LackedRowsLemmas.{drop_at, drop_past, drop_sorted}
 use Rattle.summary_docs.proofs.LackedRowsPassedLemmas.{absent_first, found_first, found_passed}
 use Rattle.summary_docs.proofs.LackedRowsPassedLemmas.{passed_less}

@@ -4,7 +4,7 @@ use Rattle.cell_core.specs.Label.{texts_of}
 use Rattle.row_docs.specs.EntriesValues.{texts_value}
 use Rattle.row_docs.specs.WritingTexts.{value_tokens}
 use Rattle.row_docs.proofs.WritingTextsLemmas.{Adds-then}
-use Rattle.summary_docs.specs.Writing.{kind_opening, stamps_opening}
+use Rattle.summary_docs.specs.inner.Writing.{kind_opening, stamps_opening}
 use Rattle.summary_docs.proofs.writing.open_labels.Goals as goal
 
 -- the kind, the digests and what follows them, one after another

@@ -2,7 +2,8 @@ use Rattle.std.proofs.Common.{take}
 use Rattle.std.specs.List.{All}
 use Rattle.row_docs.specs.Entries.{stamps_values}
 use Rattle.row_docs.specs.EntriesValid.{IsKeptStamp}
-use Rattle.row_docs.specs.WritingTexts.{Adds, row_tokens}
+use Rattle.row_docs.specs.WritingTexts.{Adds}
+use Rattle.row_docs.specs.inner.WritingTexts.{row_tokens}
 use Rattle.summary_docs.proofs.writing.write_stamps.Given as goal
 
 -- the stamps so far are written

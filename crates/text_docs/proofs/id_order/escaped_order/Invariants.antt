@@ -1,6 +1,6 @@
 use Rattle.std.proofs.Common.{◌≡◌, List, ℕ, length, true}
 use Rattle.cell_core.specs.Entry.{text_cmp}
-use Rattle.text_docs.specs.Row.{is_simple}
+use Rattle.text_docs.specs.inner.Row.{is_simple}
 use Rattle.text_docs.specs.RowStrings.{IsString}
 use Rattle.text_docs.proofs.id_order.escaped_order.Given as goal
 

@@ -1,5 +1,5 @@
 use Rattle.std.proofs.Common.{◌∙◌, ◌≡◌, ◌∷◌, List, ℕ, ap, subst, true}
-use Rattle.text_docs.specs.Row.{is_simple}
+use Rattle.text_docs.specs.inner.Row.{is_simple}
 use Rattle.text_docs.specs.RowStrings.{IsString}
 use Rattle.text_docs.proofs.IdOrderLemmas.{nothing_written, plain_front, read_after}
 use Rattle.text_docs.proofs.id_order.unescaped.Goals as goal

@@ -1,5 +1,5 @@
 use Rattle.std.proofs.Common.{◌∙◌, List, ℕ, subst}
-use Rattle.text_docs.specs.Part.{HasAllFrom, HasAllUpTo}
+use Rattle.text_docs.specs.inner.Part.{HasAllFrom, HasAllUpTo}
 use Rattle.text_docs.proofs.MessageLemmas.{answers_message, part_reads}
 use Rattle.text_docs.proofs.message.message_of.Goals as goal
 

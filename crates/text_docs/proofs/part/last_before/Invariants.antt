@@ -1,5 +1,5 @@
 use Rattle.std.proofs.Common.{◌-◌, ◌≤◌}
-use Rattle.text_docs.specs.Part.{HasAllFrom}
+use Rattle.text_docs.specs.inner.Part.{HasAllFrom}
 use Rattle.text_docs.proofs.part.last_before.Given as goal
 
 -- no row before the lower place is of the message

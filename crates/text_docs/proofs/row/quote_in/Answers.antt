@@ -1,5 +1,6 @@
 use Rattle.std.proofs.Common.{◌∙◌, [], ap, append-nil, arith, not, sym, take}
-use Rattle.text_docs.specs.Row.{is_simple, is_unclosed}
+use Rattle.text_docs.specs.Row.{is_unclosed}
+use Rattle.text_docs.specs.inner.Row.{is_simple}
 use Rattle.text_docs.proofs.row.quote_in.Goals as goal
 
 -- the bytes before the quote go on inside of the string, and nothing comes after them

@@ -1,5 +1,6 @@
 use Rattle.std.proofs.Common.{◌≡◌, ◌++◌, List, ℕ, false, take}
-use Rattle.text_docs.specs.Row.{is_simple_from, is_unclosed_from}
+use Rattle.text_docs.specs.Row.{is_unclosed_from}
+use Rattle.text_docs.specs.inner.Row.{is_simple_from}
 use Rattle.text_docs.proofs.row.quote_in.Given as goal
 
 -- what comes after the bytes so far goes on inside of the string, or after a backslash

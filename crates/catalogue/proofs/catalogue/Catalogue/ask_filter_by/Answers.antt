@@ -3,7 +3,7 @@ use Rattle.std.proofs.lemmas.Result.{IfOk-weaker}
 use Rattle.nego_core.specs.Filtering.{IsFiltered, texts_of}
 use Rattle.nego_core.specs.Offer.{items_of}
 use Rattle.catalogue.specs.Live.{live, languages}
-use Rattle.catalogue.specs.EntriesBorrowed.{labelled_of}
+use Rattle.catalogue.specs.inner.EntriesBorrowed.{labelled_of}
 use Rattle.catalogue.specs.Asking.{picked, IsFilterAnswer}
 use Rattle.catalogue.specs.EntriesOffered.{offered_cells, offered_labels}
 use Rattle.catalogue.proofs.EntriesOfferedLemmas.{live_offered}

@@ -1,7 +1,7 @@
 use Rattle.std.proofs.Common.{sym, ◌∙◌, ap}
 use Rattle.std.specs.FinMap.Entries.{find}
 use Rattle.std.specs.Cmp.Lexicographic.{nat_list_cmp_total}
-use Rattle.catalogue.specs.CatalogueFlat.{found_in}
+use Rattle.catalogue.specs.inner.CatalogueFlat.{found_in}
 use Rattle.cell_core.specs.Entry.{EntryKey, text_cmp, key_cmp}
 use Rattle.catalogue.proofs.CatalogueFlatLemmas.{find-flat}
 use Rattle.catalogue.proofs.catalogue.Catalogue.cell.Goals as goal

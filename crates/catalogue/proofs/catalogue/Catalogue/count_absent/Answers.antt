@@ -1,6 +1,6 @@
 use Rattle.std.proofs.Common.{◌≡◌, ◌+◌, not, cond, length, ◌∙◌, ap, subst, arith}
 use Rattle.catalogue.specs.Cells.{cells_left}
-use Rattle.catalogue.specs.CatalogueCounts.{count_absent}
+use Rattle.catalogue.specs.inner.CatalogueCounts.{count_absent}
 use Rattle.catalogue.specs.Entries.{Entry, Entries}
 use Rattle.catalogue.proofs.CatalogueJoinedCountsLemmas.{absent_next}
 use Rattle.catalogue.proofs.catalogue.Catalogue.count_absent.Goals as goal

@@ -1,6 +1,6 @@
 use Rattle.std.proofs.Common.{◌≡◌, ◌+◌, ◌≤◌, length}
 use Rattle.catalogue.specs.Cells.{cells_left}
-use Rattle.catalogue.specs.CatalogueCounts.{count_absent}
+use Rattle.catalogue.specs.inner.CatalogueCounts.{count_absent}
 use Rattle.catalogue.proofs.catalogue.Catalogue.count_absent.Given as goal
 
 abbrev pub invariant-loop-id : goal.invariant-loop-id

@@ -2,9 +2,9 @@ use Rattle.std.proofs.Common.{◌≡◌, [], ◌∷◌, length, true, false, sym
 use Rattle.std.specs.FinMap.Entries.{find}
 use Rattle.cell_core.specs.Cell.{joined_cells}
 use Rattle.cell_core.specs.Keyed.{IsMap, joined_at}
-use Rattle.cell_core.specs.KeyedPlaces.{place_of}
+use Rattle.cell_core.specs.inner.KeyedPlaces.{place_of}
 use Rattle.catalogue.specs.CataFault.{IsRefusal}
-use Rattle.catalogue.specs.CellRefusal.{IsCellRefusal, at_place}
+use Rattle.catalogue.specs.inner.CellRefusal.{IsCellRefusal, at_place}
 use Rattle.cell_core.specs.Entry.{key_cmp}
 use Rattle.catalogue.specs.Entries.{Entry, Agree, joined}
 use Rattle.catalogue.specs.CatalogueFlat.{flat}

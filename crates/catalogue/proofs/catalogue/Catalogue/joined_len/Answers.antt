@@ -1,6 +1,6 @@
 use Rattle.std.proofs.Common.{◌+◌, length, sym, ◌∙◌, ap, subst}
 use Rattle.cell_core.specs.Keyed.{IsMap}
-use Rattle.catalogue.specs.CatalogueCounts.{count_absent}
+use Rattle.catalogue.specs.inner.CatalogueCounts.{count_absent}
 use Rattle.cell_core.specs.Entry.{key_cmp}
 use Rattle.catalogue.specs.Entries.{joined}
 use Rattle.catalogue.proofs.CatalogueJoinedCountsLemmas.{length_joined, if_some_of}

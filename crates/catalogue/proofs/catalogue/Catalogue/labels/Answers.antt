@@ -1,5 +1,5 @@
 use Rattle.std.proofs.Common.{◌∙◌, ap}
-use Rattle.catalogue.specs.CatalogueFlat.{inner_of}
+use Rattle.catalogue.specs.inner.CatalogueFlat.{inner_of}
 use Rattle.catalogue.specs.Live.{live_of, live}
 use Rattle.catalogue.proofs.LabelsLemmas.{live-flat}
 use Rattle.catalogue.proofs.catalogue.Catalogue.labels.Goals as goal

@@ -1,6 +1,6 @@
 use Rattle.std.proofs.Common.{◌∙◌, ap, sym}
 use Rattle.nego_core.specs.Offer.{items_of}
-use Rattle.catalogue.specs.CatalogueFlat.{inner_of}
+use Rattle.catalogue.specs.inner.CatalogueFlat.{inner_of}
 use Rattle.catalogue.specs.Live.{live_of, live}
 use Rattle.catalogue.specs.EntriesOffered.{offered_labels}
 use Rattle.catalogue.proofs.LabelsLemmas.{live-flat}

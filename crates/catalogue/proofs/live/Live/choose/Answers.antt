@@ -1,8 +1,8 @@
 use Rattle.std.proofs.Common.{sym, subst}
 use Rattle.std.specs.Option.{option_map}
 use Rattle.nego_core.specs.declared.widening.Widening.{Widening}
-use Rattle.catalogue.specs.Asking.{IsChosenIn}
-use Rattle.catalogue.specs.LiveIn.{live_in}
+use Rattle.catalogue.specs.inner.Asking.{IsChosenIn}
+use Rattle.catalogue.specs.inner.LiveIn.{live_in}
 use Rattle.catalogue.proofs.LiveLanguagesLemmas.{chosen_by, chosen_off}
 use Rattle.catalogue.proofs.live.Live.choose.Goals as goal
 

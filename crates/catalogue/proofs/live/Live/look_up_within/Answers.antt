@@ -1,6 +1,6 @@
 use Rattle.std.specs.Option.{option_map}
 use Rattle.catalogue.specs.Reply.{reply_of}
-use Rattle.catalogue.specs.LiveIn.{live_in}
+use Rattle.catalogue.specs.inner.LiveIn.{live_in}
 use Rattle.catalogue.proofs.LiveLanguagesLemmas.{chosen_within, of_labels, replied}
 use Rattle.catalogue.proofs.live.Live.look_up_within.Goals as goal
 

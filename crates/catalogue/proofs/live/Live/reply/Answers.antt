@@ -1,5 +1,5 @@
 use Rattle.std.proofs.Common.{sym, ◌∙◌}
-use Rattle.catalogue.specs.LiveIn.{live_in}
+use Rattle.catalogue.specs.inner.LiveIn.{live_in}
 use Rattle.catalogue.proofs.LiveLanguagesLemmas.{among_live}
 use Rattle.catalogue.proofs.ReplyLemmas.{not_live}
 use Rattle.catalogue.proofs.live.Live.reply.Goals as goal

@@ -2,7 +2,7 @@ use Rattle.std.proofs.Common.{◌≡◌, Vec, Global, Some, get_or, sym, ap, ◌
 use Rattle.std.specs.FinMap.Entries.{find}
 use Rattle.cell_core.specs.KeyedFound.{with_key}
 use Rattle.cell_core.specs.Keyed.{IsMap}
-use Rattle.cell_core.specs.Chunks.{IsChunkFor}
+use Rattle.cell_core.specs.inner.Chunks.{IsChunkFor}
 use Rattle.cell_core.proofs.ChunkLemmas.{chunk_map, find-chunk}
 use Rattle.cell_core.proofs.KeyedPlacesLemmas.{entry_at_place}
 use Rattle.cell_core.proofs.keyed.Keyed.get_by.Goals as goal

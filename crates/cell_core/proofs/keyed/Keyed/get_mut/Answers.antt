@@ -3,8 +3,9 @@ use Rattle.std.proofs.Common.{length-set}
 use Rattle.std.specs.Vec.{with_item}
 use Rattle.std.specs.FinMap.Entries.{find, put}
 use Rattle.cell_core.specs.Keyed.{IsMap}
-use Rattle.cell_core.specs.KeyedPlaces.{IsPlace}
-use Rattle.cell_core.specs.Chunks.{all_of, IsPlaceIn}
+use Rattle.cell_core.specs.inner.KeyedPlaces.{IsPlace}
+use Rattle.cell_core.specs.Chunks.{all_of}
+use Rattle.cell_core.specs.inner.Chunks.{IsPlaceIn}
 use Rattle.cell_core.proofs.KeyedPlacesLemmas.{set_as_put, find_read, lent_as}
 use Rattle.cell_core.proofs.ChunkLemmas.{chunked_put, find-chunk}
 use Rattle.cell_core.proofs.ChunkJoinsRunLemmas.{length_with}

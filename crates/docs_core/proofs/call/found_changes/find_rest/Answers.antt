@@ -1,5 +1,5 @@
-use Rattle.docs_core.specs.FoundChanges.{changes_of}
-use Rattle.docs_core.specs.Revised.{key_of}
+use Rattle.docs_core.specs.inner.FoundChanges.{changes_of}
+use Rattle.docs_core.specs.inner.Revised.{key_of}
 use Rattle.std.specs.Prelude.{None}
 use Rattle.docs_core.proofs.FoundChangesLemmas.{AreThese, found_all, found_next, found_rest}
 use Rattle.docs_core.proofs.FoundChangesLemmas.{rest_absent}

@@ -3,7 +3,7 @@ use Rattle.cell_core.specs.Keyed.{IsMap}
 use Rattle.cell_core.specs.Entry.{key_cmp}
 use Rattle.catalogue.specs.Entries.{Entries}
 use Rattle.map_docs.specs.Maps.{Labelled}
-use Rattle.docs_core.specs.FoundChanges.{IsFound, changes_of}
+use Rattle.docs_core.specs.inner.FoundChanges.{IsFound, changes_of}
 use Rattle.docs_core.proofs.FoundChangesLemmas.{AreThese, IsFoundIn}
 use Rattle.docs_core.proofs.call.found_changes.find_rest.Given as goal
 

@@ -2,8 +2,8 @@ use Rattle.std.proofs.Common.{◌≡◌, None, sym}
 use Rattle.std.specs.declared.cmp.Ordering.TheVariants.{Less}
 use Rattle.cell_core.specs.Entry.{key_cmp}
 use Rattle.site_docs.specs.Sink.{entry_of}
-use Rattle.docs_core.specs.FoundChanges.{changes_of}
-use Rattle.docs_core.specs.Revised.{key_of}
+use Rattle.docs_core.specs.inner.FoundChanges.{changes_of}
+use Rattle.docs_core.specs.inner.Revised.{key_of}
 use Rattle.docs_core.proofs.FoundChangesLemmas.{GoesOn, all_greater, equal_there, found_before}
 use Rattle.docs_core.proofs.FoundChangesLemmas.{found_cell, found_next, lesser_absent, none_left}
 use Rattle.docs_core.proofs.call.found_changes.find_up_to.Goals as goal

@@ -4,7 +4,7 @@ use Rattle.cell_core.specs.Entry.{key_cmp}
 use Rattle.catalogue.specs.Entries.{Entries, IsAboveAll}
 use Rattle.map_docs.specs.Maps.{Labelled}
 use Rattle.site_docs.specs.Sink.{entry_of}
-use Rattle.docs_core.specs.FoundChanges.{IsFound, changes_of}
+use Rattle.docs_core.specs.inner.FoundChanges.{IsFound, changes_of}
 use Rattle.docs_core.proofs.FoundChangesLemmas.{GoesOn, IsFoundIn}
 use Rattle.docs_core.proofs.call.found_changes.find_up_to.Given as goal
 

@@ -9,7 +9,7 @@ use Rattle.catalogue.specs.Entries.{IsAboveAll}
 use Rattle.site_docs.specs.Reading.{ReadsAsSite}
 use Rattle.map_docs.specs.Maps.{Labelled}
 use Rattle.docs_core.specs.ImportingLabels.{Imports, puts_of}
-use Rattle.docs_core.specs.StampedRows.{HoldsStamped}
+use Rattle.docs_core.specs.inner.StampedRows.{HoldsStamped}
 use Rattle.docs_core.proofs.StampedRowsLemmas.{above_labels_before, labels_more, puts_above}
 use Rattle.docs_core.proofs.StampedRowsLemmas.{puts_more}
 use Rattle.docs_core.proofs.call.importing.with_labels.Goals as goal

@@ -1,6 +1,6 @@
 use Rattle.std.proofs.Common.{◌≡◌, take}
 use Rattle.docs_core.specs.ImportingLabels.{puts_of}
-use Rattle.docs_core.specs.StampedRows.{HoldsStamped}
+use Rattle.docs_core.specs.inner.StampedRows.{HoldsStamped}
 use Rattle.docs_core.proofs.call.importing.with_labels.Given as goal
 
 -- the labels so far are written

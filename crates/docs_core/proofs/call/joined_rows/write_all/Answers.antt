@@ -1,7 +1,7 @@
 use Rattle.std.proofs.Common.{◌∙◌, ◌++◌, [], ◌∷◌, append-nil, append_assoc, ap, refl, subst, sym}
 use Rattle.catalogue.specs.Equality.{seen}
 use Rattle.site_docs.specs.RowsDraft.{HoldsRows}
-use Rattle.docs_core.specs.JoinedRows.{left_of}
+use Rattle.docs_core.specs.inner.JoinedRows.{left_of}
 use Rattle.docs_core.proofs.call.joined_rows.write_all.Goals as goal
 
 -- no cell is written yet

@@ -1,7 +1,7 @@
 use Rattle.std.proofs.Common.{◌≡◌, ◌++◌, length}
 use Rattle.catalogue.specs.Entries.{Entries}
 use Rattle.site_docs.specs.RowsDraft.{HoldsRows}
-use Rattle.docs_core.specs.JoinedRows.{left_of}
+use Rattle.docs_core.specs.inner.JoinedRows.{left_of}
 use Rattle.docs_core.proofs.call.joined_rows.write_all.Given as goal
 
 -- the cells that were written, and those that are left

@@ -3,12 +3,13 @@ use Rattle.std.proofs.Common.{sym, true≢false}
 use Rattle.std.specs.declared.cmp.Ordering.{Ordering}
 use Rattle.std.specs.declared.cmp.Ordering.TheVariants.{Equal, Greater, Less}
 use Rattle.std.specs.Ordering.{is_eq}
-use Rattle.cell_core.specs.Entry.{EntryKey, key_cmp, key_cmp_exact}
+use Rattle.cell_core.specs.Entry.{EntryKey, key_cmp}
+use Rattle.cell_core.specs.inner.Entry.{key_cmp_exact}
 use Rattle.catalogue.specs.Entries.{Entry}
 use Rattle.catalogue.specs.Equality.{seen}
 use Rattle.site_docs.specs.RowsDraft.{HoldsRows}
 use Rattle.site_docs.proofs.DocumentsLemmas.{kept_more}
-use Rattle.docs_core.specs.JoinedRows.{left_of}
+use Rattle.docs_core.specs.inner.JoinedRows.{left_of}
 use Rattle.cell_core.proofs.Basics.{tied_order as tied}
 use Rattle.docs_core.proofs.call.joined_rows.write_before.Goals as goal
 

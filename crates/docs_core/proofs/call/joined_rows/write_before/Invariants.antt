@@ -3,7 +3,7 @@ use Rattle.std.specs.declared.cmp.Ordering.TheVariants.{Less}
 use Rattle.cell_core.specs.Entry.{key_cmp}
 use Rattle.catalogue.specs.Entries.{Entries, Entry}
 use Rattle.site_docs.specs.RowsDraft.{HoldsRows}
-use Rattle.docs_core.specs.JoinedRows.{left_of}
+use Rattle.docs_core.specs.inner.JoinedRows.{left_of}
 use Rattle.docs_core.proofs.call.joined_rows.write_before.Given as goal
 
 -- the cells that were written, and those that are left

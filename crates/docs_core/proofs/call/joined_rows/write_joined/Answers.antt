@@ -3,7 +3,7 @@ use Rattle.cell_core.specs.Cell.{joined_cells}
 use Rattle.catalogue.specs.Clash.{IsFirstClash}
 use Rattle.cell_core.specs.Entry.{key_cmp}
 use Rattle.site_docs.specs.Sink.{entry_of}
-use Rattle.docs_core.specs.JoinedRows.{left_of}
+use Rattle.docs_core.specs.inner.JoinedRows.{left_of}
 use Rattle.docs_core.proofs.JoinedRowsLemmas.{joining_before, joining_both, joining_clashes}
 use Rattle.docs_core.proofs.JoinedRowsLemmas.{joining_own}
 use Rattle.docs_core.proofs.call.joined_rows.write_joined.Goals as goal

@@ -2,7 +2,7 @@ use Rattle.std.proofs.Common.{◌≡◌, ◌∙◌, List, ◌∷◌, ap, subst, 
 use Rattle.cell_core.specs.Keyed.{IsMap}
 use Rattle.cell_core.specs.Entry.{EntryKey, key_cmp}
 use Rattle.map_docs.specs.Maps.{Labelled}
-use Rattle.docs_core.specs.Revised.{IsFirstRevised}
+use Rattle.docs_core.specs.inner.Revised.{IsFirstRevised}
 use Rattle.docs_core.proofs.UpdatingLemmas.{first_added, first_kept, first_removed}
 use Rattle.docs_core.proofs.call.revised.first_revised.Goals as goal
 use Rattle.docs_core.proofs.call.revised.first_revised.Goals.{in-Equal, in-Greater, in-Less}

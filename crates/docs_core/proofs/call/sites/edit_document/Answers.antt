@@ -5,7 +5,7 @@ use Rattle.cell_core.specs.declared.cell.Cell.{Cell}
 use Rattle.cell_core.specs.declared.stamp.Stamp.{Stamp}
 use Rattle.cell_core.specs.Entry.{EntryKey, key_cmp}
 use Rattle.site_docs.specs.Reading.{IsSiteText}
-use Rattle.docs_core.specs.EditedRows.{HoldsEdited}
+use Rattle.docs_core.specs.inner.EditedRows.{HoldsEdited}
 use Rattle.docs_core.proofs.call.sites.edit_document.Goals as goal
 
 -- The rows on both sides of the key are those of the site, and the cell between them has its next

@@ -7,7 +7,7 @@ use Rattle.cata_core.specs.Site.{SiteState}
 use Rattle.row_docs.specs.Reading.{IsOfDocument}
 use Rattle.site_docs.specs.Reading.{IsSiteText, RefusesSite}
 use Rattle.map_docs.proofs.MapsLabelsLemmas.{else_by}
-use Rattle.docs_core.specs.JoinedRows.{HoldsJoined}
+use Rattle.docs_core.specs.inner.JoinedRows.{HoldsJoined}
 use Rattle.site_docs.specs.RowsInTime.{AreInTime, IsTimeAhead}
 use Rattle.docs_core.specs.declared.call.joined_rows.JoinedRows.{JoinedRows}
 use Rattle.docs_core.proofs.CallsLemmas.{of_call, refused_after}

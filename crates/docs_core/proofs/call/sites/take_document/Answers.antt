@@ -7,7 +7,7 @@ use Rattle.cata_core.specs.Site.{SiteState}
 use Rattle.json_docs.specs.Faults.{of_no_document, of_site}
 use Rattle.map_docs.proofs.MapsLabelsLemmas.{else_by}
 use Rattle.site_docs.specs.Checks.{RefusesDeltaUntil}
-use Rattle.docs_core.specs.JoinedRows.{HoldsJoined}
+use Rattle.docs_core.specs.inner.JoinedRows.{HoldsJoined}
 use Rattle.docs_core.proofs.CallsLemmas.{of_call, refused_after}
 use Rattle.site_docs.proofs.ChecksRowsFit.{delta_fits}
 use Rattle.docs_core.proofs.call.sites.take_document.Goals as goal

@@ -2,7 +2,7 @@ use Rattle.std.proofs.Common.{◌∙◌, List, Option, ap, subst, sym, ℕ}
 use Rattle.std.proofs.lemmas.Option.{IfSome_then}
 use Rattle.cata_core.specs.Site.{SiteState}
 use Rattle.site_docs.specs.Reading.{ReadsAsSite}
-use Rattle.docs_core.specs.SyncedRows.{AreNames, HoldsSynced, LackNone}
+use Rattle.docs_core.specs.inner.SyncedRows.{AreNames, HoldsSynced, LackNone}
 use Rattle.site_docs.specs.RowsInTime.{AreInTime}
 use Rattle.docs_core.specs.declared.call.synced_rows.SyncedRows.{SyncedRows}
 use Rattle.docs_core.specs.declared.call.synced_rows.Tests.{Tests}

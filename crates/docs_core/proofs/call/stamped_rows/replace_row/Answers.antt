@@ -1,11 +1,12 @@
 use Rattle.std.proofs.Common.{◌∙◌, ◌++◌, [], ◌∷◌, ap, subst, sym}
 use Rattle.std.proofs.lemmas.Option.{IfSome_then}
-use Rattle.cell_core.specs.Entry.{EntryKey, key_cmp_exact}
+use Rattle.cell_core.specs.Entry.{EntryKey}
+use Rattle.cell_core.specs.inner.Entry.{key_cmp_exact}
 use Rattle.site_docs.specs.RowsDraft.{HoldsRows}
 use Rattle.cell_core.specs.Stamp.{stamp_cmp}
 use Rattle.cell_core.specs.declared.cell.Cell.{Cell}
 use Rattle.site_docs.specs.WrittenRows.{current_of, entry_of}
-use Rattle.docs_core.specs.SyncedRows.{order_to, untested}
+use Rattle.docs_core.specs.inner.SyncedRows.{order_to, untested}
 use Rattle.lang_core.proofs.Basics.{less_of as lt_less}
 use Rattle.docs_core.proofs.StampedRowsLemmas.{later_agrees, later_joined}
 use Rattle.docs_core.proofs.SyncedRowsLemmas.{both_written, some_both}

@@ -1,7 +1,7 @@
 use Rattle.std.proofs.Common.{◌∙◌, sym}
 use Rattle.std.proofs.lemmas.Option.{IfSome_then}
 use Rattle.cell_core.proofs.Basics.{tied_order as tied}
-use Rattle.docs_core.specs.SyncedRows.{untested}
+use Rattle.docs_core.specs.inner.SyncedRows.{untested}
 use Rattle.docs_core.proofs.SyncedRowsLemmas.{greater_left, own_written}
 use Rattle.docs_core.proofs.call.stamped_rows.write_change.Goals as goal
 

@@ -1,7 +1,7 @@
 use Rattle.std.proofs.Common.{List, ℕ}
 use Rattle.catalogue.specs.Entries.{Entries}
 use Rattle.site_docs.specs.WrittenRows.{HasRead, left_in}
-use Rattle.docs_core.specs.SyncedRows.{IsSyncedAll}
+use Rattle.docs_core.specs.inner.SyncedRows.{IsSyncedAll}
 use Rattle.docs_core.proofs.call.synced_rows.write_all.Given as goal
 
 -- the rows that are left as far as they are written

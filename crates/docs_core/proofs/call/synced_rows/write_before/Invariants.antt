@@ -1,7 +1,7 @@
 use Rattle.std.proofs.Common.{◌≡◌, List, ℕ}
 use Rattle.catalogue.specs.Entries.{Entries, IsAboveAll}
 use Rattle.site_docs.specs.WrittenRows.{HasRead, current_of, left_in}
-use Rattle.docs_core.specs.SyncedRows.{IsSyncedBefore, IsSyncedTo, order_to}
+use Rattle.docs_core.specs.inner.SyncedRows.{IsSyncedBefore, IsSyncedTo, order_to}
 use Rattle.docs_core.proofs.call.synced_rows.write_before.Given as goal
 
 -- the rows with lesser keys as far as they are written, and how the next one is ordered

@@ -1,8 +1,9 @@
 use Rattle.std.proofs.Common.{◌∙◌, [], ◌∷◌, ap, sym}
-use Rattle.cell_core.specs.Entry.{EntryKey, key_cmp_exact}
+use Rattle.cell_core.specs.Entry.{EntryKey}
+use Rattle.cell_core.specs.inner.Entry.{key_cmp_exact}
 use Rattle.site_docs.specs.Sink.{entry_of}
 use Rattle.site_docs.specs.WrittenRows.{entry_of as row_entry}
-use Rattle.docs_core.specs.SyncedRows.{order_to}
+use Rattle.docs_core.specs.inner.SyncedRows.{order_to}
 use Rattle.docs_core.proofs.SyncedRowsLemmas.{both_written, some_both}
 use Rattle.docs_core.proofs.call.synced_rows.write_both.Goals as goal
 

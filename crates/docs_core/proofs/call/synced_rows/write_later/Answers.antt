@@ -2,7 +2,7 @@ use Rattle.std.proofs.Common.{◌∙◌, ◌++◌, [], ◌∷◌, ap, refl, subs
 use Rattle.std.proofs.lemmas.Option.{IfSome_then}
 use Rattle.std.specs.Cmp.{tied_itself}
 use Rattle.std.specs.declared.cmp.Ordering.TheVariants.{Less}
-use Rattle.cell_core.specs.Cell.{stamp_cmp_total}
+use Rattle.cell_core.specs.inner.Cell.{stamp_cmp_total}
 use Rattle.cell_core.specs.Stamp.{stamp_cmp}
 use Rattle.cell_core.specs.declared.cell.Cell.{Cell}
 use Rattle.cell_core.specs.Entry.{EntryKey}

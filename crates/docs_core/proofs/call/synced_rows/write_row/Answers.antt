@@ -6,7 +6,7 @@ use Rattle.cell_core.specs.Entry.{key_cmp}
 use Rattle.catalogue.specs.Entries.{Entry, IsAboveAll}
 use Rattle.site_docs.specs.WrittenRows.{current_of, entry_of}
 use Rattle.site_docs.proofs.DocumentsLemmas.{kept_more}
-use Rattle.docs_core.specs.SyncedRows.{order_to}
+use Rattle.docs_core.specs.inner.SyncedRows.{order_to}
 use Rattle.docs_core.proofs.SyncedRowsLemmas.{row_written, some_both}
 use Rattle.docs_core.proofs.call.synced_rows.write_row.Goals as goal
 

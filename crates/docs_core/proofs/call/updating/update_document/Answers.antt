@@ -2,7 +2,7 @@ use Rattle.std.proofs.Common.{inl, inr}
 use Rattle.std.proofs.lemmas.Result.{err_from_is_err_and}
 use Rattle.json_docs.proofs.ObjectMembersLemmas.{both_weaker}
 use Rattle.map_docs.proofs.MapsLabelsLemmas.{else_by}
-use Rattle.docs_core.specs.Updating.{RefusesMaps}
+use Rattle.docs_core.specs.inner.Updating.{RefusesMaps}
 use Rattle.docs_core.proofs.CallsLemmas.{refused_after}
 use Rattle.docs_core.proofs.UpdatingRefusalLemmas.{maps_refused, maps_updated}
 use Rattle.docs_core.proofs.call.updating.update_document.Goals as goal

@@ -2,7 +2,7 @@ use Rattle.std.proofs.Common.{◌∙◌, ℕ, List, ap, subst}
 use Rattle.cell_core.specs.Stamp.{NoNext}
 use Rattle.catalogue.specs.CatalogueLatest.{latest_of}
 use Rattle.cata_core.specs.Site.{SiteState}
-use Rattle.docs_core.specs.Revised.{IsRevised}
+use Rattle.docs_core.specs.inner.Revised.{IsRevised}
 use Rattle.map_docs.proofs.MapsLabelsLemmas.{else_by}
 use Rattle.docs_core.proofs.UpdatingLemmas.{SpendsUpdate-here, front_done, front_left, front_next}
 use Rattle.docs_core.proofs.UpdatingLemmas.{front_spends}

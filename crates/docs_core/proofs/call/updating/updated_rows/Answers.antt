@@ -7,8 +7,8 @@ use Rattle.cell_core.specs.Entry.{key_cmp}
 use Rattle.cata_core.specs.Site.{SiteState}
 use Rattle.map_docs.proofs.MapsLabelsLemmas.{else_by}
 use Rattle.site_docs.specs.Reading.{ReadsAsSite}
-use Rattle.docs_core.specs.FoundChanges.{changes_of}
-use Rattle.docs_core.specs.StampedRows.{HoldsStamped}
+use Rattle.docs_core.specs.inner.FoundChanges.{changes_of}
+use Rattle.docs_core.specs.inner.StampedRows.{HoldsStamped}
 use Rattle.docs_core.specs.Updating.{AreChanges}
 use Rattle.docs_core.specs.declared.call.found_changes.KeyChange.{KeyChange}
 use Rattle.docs_core.proofs.FoundChangesLemmas.{found_from}

@@ -7,9 +7,9 @@ use Rattle.cell_core.specs.Entry.{EntryKey}
 use Rattle.catalogue.specs.CatalogueLatest.{latest_of}
 use Rattle.catalogue.specs.Entries.{IsAboveAll}
 use Rattle.site_docs.specs.Reading.{ReadsAsSite}
-use Rattle.docs_core.specs.FoundChanges.{changes_of}
+use Rattle.docs_core.specs.inner.FoundChanges.{changes_of}
 use Rattle.docs_core.specs.UpdatingChanges.{Change}
-use Rattle.docs_core.specs.StampedRows.{HoldsStamped}
+use Rattle.docs_core.specs.inner.StampedRows.{HoldsStamped}
 use Rattle.docs_core.specs.declared.call.found_changes.KeyChange.{KeyChange}
 use Rattle.docs_core.proofs.StampedRowsLemmas.{above_taken, taken_more}
 use Rattle.docs_core.proofs.call.updating.with_changes.Goals as goal

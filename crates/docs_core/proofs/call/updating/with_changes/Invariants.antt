@@ -1,7 +1,7 @@
 use Rattle.std.proofs.Common.{◌≡◌, List, Option, [], take, ℕ}
 use Rattle.cell_core.specs.declared.stamp.Stamp.{Stamp}
-use Rattle.docs_core.specs.FoundChanges.{changes_of}
-use Rattle.docs_core.specs.StampedRows.{HoldsStamped}
+use Rattle.docs_core.specs.inner.FoundChanges.{changes_of}
+use Rattle.docs_core.specs.inner.StampedRows.{HoldsStamped}
 use Rattle.docs_core.proofs.call.updating.with_changes.Given as goal
 
 -- the changes so far are written

@@ -1,7 +1,7 @@
 use Rattle.std.proofs.Common.{◌≡◌, true, ◌∙◌, ap}
 use Rattle.std.specs.Str.{str_to_ascii_lowercase}
 use Rattle.lang_core.specs.Grammar.{is_private_piece}
-use Rattle.lang_core.specs.Kind.{is_of}
+use Rattle.lang_core.specs.inner.Kind.{is_of}
 use Rattle.lang_core.proofs.SubtagLemmas.{lower_piece}
 use Rattle.lang_core.proofs.kind.Kind.has.Goals as goal
 

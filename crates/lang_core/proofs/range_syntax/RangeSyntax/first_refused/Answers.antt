@@ -1,6 +1,6 @@
 use Rattle.std.proofs.Common.{rules, arith}
-use Rattle.lang_core.specs.Pieces.{pieces_left}
-use Rattle.lang_core.specs.RangeSyntax.{allowed_by}
+use Rattle.lang_core.specs.inner.Pieces.{pieces_left}
+use Rattle.lang_core.specs.inner.RangeSyntax.{allowed_by}
 use Rattle.lang_core.proofs.PiecesWalk.{walk_start, walk_on, walk_fits}
 use Rattle.lang_core.proofs.range_syntax.RangeSyntax.first_refused.Goals as goal
 

@@ -1,5 +1,5 @@
-use Rattle.lang_core.specs.Pieces.{pieces_left}
-use Rattle.lang_core.specs.RangeSyntax.{allowed_by}
+use Rattle.lang_core.specs.inner.Pieces.{pieces_left}
+use Rattle.lang_core.specs.inner.RangeSyntax.{allowed_by}
 use Rattle.lang_core.proofs.PiecesWalk.{IsWalked}
 use Rattle.lang_core.proofs.range_syntax.RangeSyntax.first_refused.Given as goal
 

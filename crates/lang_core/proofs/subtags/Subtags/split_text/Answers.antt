@@ -2,7 +2,7 @@ use Rattle.std.proofs.Common.{arith, ◌≡◌, ◌∙◌, ◌-◌, ap, take, dr
 use Rattle.std.specs.Str.{IsCharBoundary}
 use Rattle.std.proofs.lemmas.Str.{IsCharBoundary-before_ascii, IsCharBoundary-after_ascii}
 use Rattle.lang_core.specs.Text.{pieces}
-use Rattle.lang_core.specs.Kind.{is_of}
+use Rattle.lang_core.specs.inner.Kind.{is_of}
 use Rattle.lang_core.proofs.SubtagsRunsLemmas.{no_run, all_run, cut_run, split_as}
 use Rattle.lang_core.proofs.subtags.Subtags.split_text.Goals as goal
 

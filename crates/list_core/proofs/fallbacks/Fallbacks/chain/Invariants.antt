@@ -1,6 +1,7 @@
 use Rattle.std.proofs.Common.{◌≡◌}
 use Rattle.std.specs.Prelude.{MatchOption, map, option_map, string_bytes}
-use Rattle.list_core.specs.Fallbacks.{LeadsOn, chain_of}
+use Rattle.list_core.specs.Fallbacks.{chain_of}
+use Rattle.list_core.specs.inner.Fallbacks.{LeadsOn}
 use Rattle.list_core.proofs.fallbacks.Fallbacks.chain.Given as goal
 
 abbrev pub invariant-loop-next : goal.invariant-loop-next

@@ -4,7 +4,8 @@ use Rattle.lang_core.specs.Text.{pieces}
 use Rattle.lang_core.specs.Truncations.{truncations_left}
 use Rattle.lang_core.specs.TruncationsCandidates.{candidates}
 use Rattle.std.proofs.lemmas.List.{map-append}
-use Rattle.list_core.specs.Fallbacks.{AreUnused, LeadsOn, chain_from, is_in, right_of, walk}
+use Rattle.list_core.specs.Fallbacks.{is_in, right_of, walk}
+use Rattle.list_core.specs.inner.Fallbacks.{AreUnused, LeadsOn, chain_from}
 use Rattle.list_core.specs.declared.fallbacks.Fallback.{Fallback}
 use Rattle.list_core.proofs.FallbacksChainLemmas.{added, added_unused, again, is_in_map, leads}
 use Rattle.list_core.proofs.fallbacks.Fallbacks.extend.Goals as goal

@@ -3,7 +3,8 @@ use Rattle.std.specs.Prelude.{map, string_bytes}
 use Rattle.lang_core.specs.Text.{pieces}
 use Rattle.lang_core.specs.Truncations.{truncations_left}
 use Rattle.lang_core.specs.TruncationsCandidates.{candidates}
-use Rattle.list_core.specs.Fallbacks.{AreUnused, chain_from, walk}
+use Rattle.list_core.specs.Fallbacks.{walk}
+use Rattle.list_core.specs.inner.Fallbacks.{AreUnused, chain_from}
 use Rattle.list_core.specs.declared.fallbacks.Fallback.{Fallback}
 use Rattle.list_core.proofs.fallbacks.Fallbacks.extend.Given as goal
 

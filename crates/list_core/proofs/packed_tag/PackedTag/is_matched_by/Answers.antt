@@ -1,7 +1,7 @@
 use Rattle.std.proofs.Common.{◌≡◌, ◌∙◌, ap, subst, List, ℕ}
 use Rattle.lang_core.specs.Text.{pieces}
 use Rattle.lang_core.specs.Grammar.{AreAll}
-use Rattle.list_core.specs.PackedTag.{is_packable, all_packed, extended_packed}
+use Rattle.list_core.specs.inner.PackedTag.{is_packable, all_packed, extended_packed}
 use Rattle.list_core.proofs.PackedTagLemmas.{extended_packed_is, packable_range, packable_tag}
 use Rattle.list_core.proofs.packed_tag.PackedTag.is_matched_by.Goals as goal
 

@@ -2,7 +2,7 @@ use Rattle.std.proofs.Common.{◌≡◌, ◌≤◌, ◌∙◌, ap, subst, length
 use Rattle.lang_core.specs.Text.{pieces}
 use Rattle.lang_core.specs.Grammar.{AreAll}
 use Rattle.lang_core.specs.Subtags.{subtags_left}
-use Rattle.list_core.specs.PackedTag.{is_packable}
+use Rattle.list_core.specs.inner.PackedTag.{is_packable}
 use Rattle.list_core.proofs.PackedTagLemmas.{few_subtags, packable_tag, packed_room}
 use Rattle.list_core.proofs.packed_tag.PackedTag.new.Goals as goal
 

@@ -2,7 +2,7 @@ use Rattle.std.proofs.Common.{◌≡◌, ◌++◌}
 use Rattle.lang_core.specs.Text.{pieces}
 use Rattle.lang_core.specs.Grammar.{AreAll}
 use Rattle.lang_core.specs.Subtags.{subtags_left}
-use Rattle.list_core.specs.PackedTag.{is_packable, all_packed}
+use Rattle.list_core.specs.inner.PackedTag.{is_packable, all_packed}
 use Rattle.list_core.proofs.packed_tag.PackedTag.new.Given as goal
 
 abbrev pub invariant-loop-subtag : goal.invariant-loop-subtag

@@ -1,5 +1,6 @@
 use Rattle.std.proofs.Common.{ℕ, List, ◌∙◌, ap, subst}
-use Rattle.list_core.specs.Fingerprint.{slot_of, IsTableOf}
+use Rattle.list_core.specs.Fingerprint.{slot_of}
+use Rattle.list_core.specs.inner.Fingerprint.{IsTableOf}
 use Rattle.nego_core.proofs.LangSetLemmas.{absent}
 use Rattle.nego_core.proofs.lang_set.LangSetHolds.holds.Goals as goal
 

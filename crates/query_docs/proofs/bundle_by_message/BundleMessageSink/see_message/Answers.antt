@@ -3,11 +3,11 @@ use Rattle.cell_core.proofs.KeyedAboveLemmas.{on_ok_then}
 use Rattle.catalogue.specs.Asking.{IsLookedUpIn}
 use Rattle.catalogue.specs.Live.{Labelled}
 use Rattle.catalogue.proofs.Basics.{append_nil}
-use Rattle.query_docs.specs.BundleByMessage.{default_of}
-use Rattle.query_docs.specs.ByMessage.{cells_of}
-use Rattle.query_docs.specs.Draft.{HasWritten}
-use Rattle.query_docs.specs.LiveCells.{found_in, labels_of}
-use Rattle.query_docs.specs.LiveCellsLookup.{answered_of}
+use Rattle.query_docs.specs.inner.BundleByMessage.{default_of}
+use Rattle.query_docs.specs.inner.ByMessage.{cells_of}
+use Rattle.query_docs.specs.inner.Draft.{HasWritten}
+use Rattle.query_docs.specs.inner.LiveCells.{found_in, labels_of}
+use Rattle.query_docs.specs.inner.LiveCellsLookup.{answered_of}
 use Rattle.query_docs.specs.declared.by_message.MessageCell.{MessageCell}
 use Rattle.query_docs.proofs.BundleByMessageLemmas.{bundled_more, own_id}
 use Rattle.query_docs.proofs.LiveCellsLemmas.{labelled_answer, own_live}

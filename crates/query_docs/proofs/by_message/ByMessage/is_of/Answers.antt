@@ -1,6 +1,6 @@
 use Rattle.std.proofs.Common.{◌∙◌, List, Option, ap, sym, ℕ}
-use Rattle.cell_core.specs.KeyTextOrder.{texts_tie}
-use Rattle.query_docs.specs.ByMessage.{is_of}
+use Rattle.cell_core.specs.inner.KeyTextOrder.{texts_tie}
+use Rattle.query_docs.specs.inner.ByMessage.{is_of}
 use Rattle.query_docs.proofs.by_message.ByMessage.is_of.Goals as goal
 
 -- the test of the two ids

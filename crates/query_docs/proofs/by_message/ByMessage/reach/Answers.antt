@@ -1,5 +1,5 @@
 use Rattle.std.proofs.Common.{◌∙◌, ◌++◌, [], ◌∷◌, List, subst, sym}
-use Rattle.query_docs.specs.ByMessage.{HasGiven, cells_of, entries_in}
+use Rattle.query_docs.specs.inner.ByMessage.{HasGiven, cells_of, entries_in}
 use Rattle.query_docs.specs.declared.by_message.MessageCell.{MessageCell}
 use Rattle.query_docs.proofs.ByMessageLemmas.{IsOther, IsSame, given_more, given_on, other_of}
 use Rattle.query_docs.proofs.ByMessageLemmas.{same_of}

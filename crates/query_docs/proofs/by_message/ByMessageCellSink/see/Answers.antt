@@ -1,6 +1,6 @@
 use Rattle.std.proofs.Common.{◌≡◌, ap, refl}
 use Rattle.site_docs.specs.Sink.{entry_of, texts_of}
-use Rattle.query_docs.specs.ByMessage.{cell_of}
+use Rattle.query_docs.specs.inner.ByMessage.{cell_of}
 use Rattle.query_docs.specs.declared.by_message.ByMessage.{ByMessage}
 use Rattle.query_docs.specs.declared.by_message.MessageCell.{MessageCell}
 use Rattle.query_docs.proofs.ByMessageLemmas.{seen_more}

@@ -2,8 +2,8 @@ use Rattle.std.proofs.Common.{◌∙◌, ◌++◌, List, ap, false, refl, subst,
 use Rattle.cell_core.proofs.KeyedAboveLemmas.{on_ok_then}
 use Rattle.catalogue.proofs.Basics.{append_nil}
 use Rattle.map_docs.specs.Maps.{Labelled}
-use Rattle.query_docs.specs.ByMessage.{cells_of}
-use Rattle.query_docs.specs.Draft.{HasWritten}
+use Rattle.query_docs.specs.inner.ByMessage.{cells_of}
+use Rattle.query_docs.specs.inner.Draft.{HasWritten}
 use Rattle.query_docs.proofs.ChosenLemmas.{chosen_or_none, has_more}
 use Rattle.query_docs.proofs.chosen.ChosenLabelsMessageSink.see_message.Goals as goal
 

@@ -4,7 +4,7 @@ use Rattle.cell_core.specs.Entry.{EntryKey}
 use Rattle.map_docs.specs.Maps.{Labelled}
 use Rattle.site_docs.specs.Sink.{texts_of}
 use Rattle.site_docs.specs.declared.sink.LabelRef.{LabelRef}
-use Rattle.query_docs.specs.Draft.{HasWritten, labelled_by}
+use Rattle.query_docs.specs.inner.Draft.{HasWritten, labelled_by}
 use Rattle.query_docs.specs.declared.draft.Draft.{Draft}
 use Rattle.query_docs.proofs.draft.Draft.add_seen.Goals as goal
 

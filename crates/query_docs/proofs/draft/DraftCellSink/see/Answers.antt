@@ -1,7 +1,7 @@
 use Rattle.std.proofs.Common.{subst, sym}
 use Rattle.cell_core.proofs.KeyedAboveLemmas.{on_ok_then}
 use Rattle.site_docs.specs.Sink.{entry_of}
-use Rattle.query_docs.specs.Draft.{HasWritten}
+use Rattle.query_docs.specs.inner.Draft.{HasWritten}
 use Rattle.query_docs.specs.Exporting.{live_labels}
 use Rattle.query_docs.proofs.DraftLemmas.{live_more}
 use Rattle.query_docs.proofs.draft.DraftCellSink.see.Goals as goal

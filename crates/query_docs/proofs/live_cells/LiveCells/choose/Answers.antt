@@ -1,8 +1,8 @@
 use Rattle.std.proofs.Common.{sym, subst}
 use Rattle.std.specs.Option.{option_map}
 use Rattle.nego_core.specs.declared.widening.Widening.{Widening}
-use Rattle.catalogue.specs.Asking.{IsChosenIn}
-use Rattle.query_docs.specs.LiveCells.{labels_of}
+use Rattle.catalogue.specs.inner.Asking.{IsChosenIn}
+use Rattle.query_docs.specs.inner.LiveCells.{labels_of}
 use Rattle.catalogue.proofs.LiveLanguagesLemmas.{chosen_by, chosen_off}
 use Rattle.query_docs.proofs.live_cells.LiveCells.choose.Goals as goal
 

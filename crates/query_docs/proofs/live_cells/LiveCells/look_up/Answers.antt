@@ -4,10 +4,11 @@ use Rattle.std.specs.Borrow.{Bor}
 use Rattle.lang_core.specs.declared.lang.Lang.{Lang}
 use Rattle.nego_core.specs.declared.choosing.Choice.{Choice}
 use Rattle.nego_core.specs.declared.choosing.Choice.TheVariants as choice
-use Rattle.catalogue.specs.Asking.{IsChosenIn, IsLookedUpIn}
+use Rattle.catalogue.specs.Asking.{IsLookedUpIn}
+use Rattle.catalogue.specs.inner.Asking.{IsChosenIn}
 use Rattle.catalogue.specs.declared.reply.Reply.TheVariants.{Default, Matched}
 use Rattle.catalogue.proofs.LiveLanguagesLemmas.{found_live, replied}
-use Rattle.query_docs.specs.LiveCells.{found_in, labels_of}
+use Rattle.query_docs.specs.inner.LiveCells.{found_in, labels_of}
 use Rattle.query_docs.proofs.LiveCellsLemmas.{found_live_label}
 use Rattle.query_docs.proofs.live_cells.LiveCells.look_up.Goals as goal
 

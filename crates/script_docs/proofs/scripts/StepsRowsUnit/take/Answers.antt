@@ -8,7 +8,7 @@ use Rattle.row_docs.specs.Cuts.{recounted}
 use Rattle.row_docs.proofs.CutsFieldsLemmas.{not_there}
 use Rattle.script_docs.specs.StepFields.{Makes, step_checks, step_fields}
 use Rattle.script_docs.specs.Steps.{step_in}
-use Rattle.script_docs.specs.StepsSeen.{text_of}
+use Rattle.script_docs.specs.inner.StepsSeen.{text_of}
 use Rattle.script_docs.proofs.StepsCutLemmas.{first_step, kept_fails, kept_passes, no_step_kept}
 use Rattle.script_docs.proofs.StepsCutLemmas.{step_in-cut}
 use Rattle.script_docs.proofs.StepsLemmas.{AreSteps-push}

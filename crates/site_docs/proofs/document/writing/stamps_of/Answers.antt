@@ -3,7 +3,7 @@ use Rattle.std.proofs.Math.Seq.{take-length}
 use Rattle.cata_core.specs.Delta.{Stamps}
 use Rattle.cell_core.specs.Entry.{EntryKey}
 use Rattle.cell_core.specs.declared.stamp.Stamp.{Stamp}
-use Rattle.site_docs.specs.StampsDraft.{HoldsStamps}
+use Rattle.site_docs.specs.inner.StampsDraft.{HoldsStamps}
 use Rattle.catalogue.proofs.Basics.{there as some_at}
 use Rattle.site_docs.proofs.DocumentsLemmas.{taken_more}
 use Rattle.site_docs.proofs.document.writing.stamps_of.Goals as goal

@@ -1,5 +1,5 @@
 use Rattle.std.proofs.Common.{take}
-use Rattle.site_docs.specs.StampsDraft.{HoldsStamps}
+use Rattle.site_docs.specs.inner.StampsDraft.{HoldsStamps}
 use Rattle.site_docs.proofs.document.writing.stamps_of.Given as goal
 
 -- the stamps so far are written

@@ -3,7 +3,8 @@ use Rattle.std.proofs.lemmas.List.Elements.{All-nil}
 use Rattle.std.specs.declared.cmp.Ordering.TheVariants.{Less}
 use Rattle.cell_core.specs.Entry.{key_cmp}
 use Rattle.catalogue.specs.Entries.{Entry}
-use Rattle.site_docs.specs.PlainRows.{entry_in, key_in, row_before}
+use Rattle.site_docs.specs.PlainRows.{entry_in, key_in}
+use Rattle.site_docs.specs.inner.PlainRows.{row_before}
 use Rattle.site_docs.proofs.plain.rows.first_cell.Goals as goal
 
 -- the row as far as its label, and there is no cell yet

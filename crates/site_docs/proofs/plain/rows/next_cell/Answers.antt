@@ -1,5 +1,6 @@
 use Rattle.std.proofs.Common.{◌∙◌, ap, refl, sym}
-use Rattle.site_docs.specs.PlainRows.{entry_in, key_in, row_before}
+use Rattle.site_docs.specs.PlainRows.{entry_in, key_in}
+use Rattle.site_docs.specs.inner.PlainRows.{row_before}
 use Rattle.site_docs.proofs.plain.rows.next_cell.Goals as goal
 
 -- the row as far as its label, whose key is greater than the last one, and so than all

@@ -1,7 +1,8 @@
 use Rattle.std.proofs.Common.{◌≡◌, ◌∙◌, ◌++◌, ◌∷◌, List, Option, ap, ℕ}
 use Rattle.serde_json.specs.Written.{compact_text}
 use Rattle.row_docs.specs.EntriesValues.{Row, cell_value, label_value}
-use Rattle.site_docs.specs.PlainRows.{row_before, row_in}
+use Rattle.site_docs.specs.PlainRows.{row_in}
+use Rattle.site_docs.specs.inner.PlainRows.{row_before}
 use Rattle.site_docs.specs.Sink.{texts_of}
 use Rattle.site_docs.proofs.PlainLemmas.{row_taken}
 use Rattle.site_docs.proofs.plain.rows.row_end.Goals as goal

@@ -6,7 +6,7 @@ use Rattle.serde_json.specs.Written.{comma_if, compact_text}
 use Rattle.cell_core.specs.Entry.{EntryKey, key_cmp}
 use Rattle.catalogue.specs.Entries.{Entry}
 use Rattle.row_docs.specs.Entries.{cells_values, entry_value}
-use Rattle.site_docs.specs.PlainRows.{IsLastOf}
+use Rattle.site_docs.specs.inner.PlainRows.{IsLastOf}
 use Rattle.site_docs.proofs.PlainLemmas.{array_taken, cell_taken, cells_kept, is_later-push}
 use Rattle.site_docs.proofs.PlainLemmas.{last_taken, none_kept}
 use Rattle.site_docs.proofs.plain.rows.some_cells.Goals as goal

@@ -6,7 +6,8 @@ use Rattle.catalogue.specs.Entries.{Entries}
 use Rattle.row_docs.specs.Entries.{cells_values}
 use Rattle.row_docs.specs.EntriesValid.{AreKeptCells}
 use Rattle.site_docs.specs.Plain.{is_later, open_items}
-use Rattle.site_docs.specs.PlainRows.{IsLastOf, IsSpelled, key_in}
+use Rattle.site_docs.specs.PlainRows.{IsSpelled, key_in}
+use Rattle.site_docs.specs.inner.PlainRows.{IsLastOf}
 use Rattle.site_docs.proofs.plain.rows.some_cells.Given as goal
 
 -- the cells that were read, and what is left

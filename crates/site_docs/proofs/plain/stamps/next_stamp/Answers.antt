@@ -1,5 +1,6 @@
 use Rattle.std.proofs.Common.{◌∙◌, ap, sym}
-use Rattle.site_docs.specs.PlainRows.{key_in, row_in, row_until}
+use Rattle.site_docs.specs.PlainRows.{key_in, row_in}
+use Rattle.site_docs.specs.inner.PlainRows.{row_until}
 use Rattle.site_docs.proofs.PlainStampsLemmas.{stamp_taken}
 use Rattle.site_docs.proofs.plain.stamps.next_stamp.Goals as goal
 

@@ -5,7 +5,7 @@ use Rattle.cata_core.specs.Delta.{Stamps}
 use Rattle.row_docs.specs.Entries.{stamped_value, stamps_values}
 use Rattle.row_docs.specs.EntriesValid.{AreKeptStamps}
 use Rattle.site_docs.specs.Plain.{is_later, open_items}
-use Rattle.site_docs.specs.PlainRows.{IsLastOf, stamped_in}
+use Rattle.site_docs.specs.inner.PlainRows.{IsLastOf, stamped_in}
 use Rattle.site_docs.proofs.PlainLemmas.{array_taken, is_later-push, last_taken}
 use Rattle.site_docs.proofs.PlainStampsLemmas.{stamps_kept, stamps_taken}
 use Rattle.site_docs.proofs.plain.stamps.some_stamps.Goals as goal

@@ -5,7 +5,8 @@ use denote.Shadow.{shadow}
 use Rattle.row_docs.specs.Entries.{stamps_values}
 use Rattle.row_docs.specs.EntriesValid.{AreKeptStamps}
 use Rattle.site_docs.specs.Plain.{is_later, open_items}
-use Rattle.site_docs.specs.PlainRows.{IsLastOf, IsSpelled, key_in}
+use Rattle.site_docs.specs.PlainRows.{IsSpelled, key_in}
+use Rattle.site_docs.specs.inner.PlainRows.{IsLastOf}
 use Rattle.site_docs.proofs.plain.stamps.some_stamps.Given as goal
 
 -- the rows that were read, and what is left

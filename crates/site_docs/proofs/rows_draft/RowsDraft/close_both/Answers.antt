@@ -1,5 +1,5 @@
 use Rattle.std.proofs.Common.{subst, sym}
-use Rattle.site_docs.specs.Envelope.{IsFront}
+use Rattle.site_docs.specs.inner.Envelope.{IsFront}
 use Rattle.site_docs.proofs.RowsDraftLemmas.{is_front}
 use Rattle.site_docs.proofs.rows_draft.RowsDraft.close_both.Goals as goal
 

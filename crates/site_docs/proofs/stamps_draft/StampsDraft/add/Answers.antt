@@ -4,7 +4,7 @@ use Rattle.cell_core.specs.declared.stamp.Stamp.{Stamp}
 use Rattle.cell_core.specs.Entry.{EntryKey}
 use Rattle.row_docs.specs.Entries.{stamped_value, stamps_values}
 use Rattle.row_docs.specs.WritingTexts.{value_tokens}
-use Rattle.site_docs.specs.Envelope.{stamps_opening}
+use Rattle.site_docs.specs.inner.Envelope.{stamps_opening}
 use Rattle.site_docs.proofs.StampsDraftLemmas.{stamp_added}
 use Rattle.site_docs.proofs.stamps_draft.StampsDraft.add.Goals as goal
 

@@ -2,7 +2,7 @@ use Rattle.std.proofs.Common.{◌∙◌, ◌++◌, ◌∷◌, [], ap}
 use Rattle.cell_core.proofs.KeyedAboveLemmas.{on_ok_then}
 use Rattle.cata_core.specs.Delta.{summary_of}
 use Rattle.row_docs.specs.Entries.{stamped_value, stamps_values}
-use Rattle.site_docs.specs.Envelope.{stamps_opening}
+use Rattle.site_docs.specs.inner.Envelope.{stamps_opening}
 use Rattle.site_docs.specs.Sink.{entry_of}
 use Rattle.site_docs.specs.declared.stamps_draft.StampsDraft.{StampsDraft}
 use Rattle.site_docs.proofs.StampsDraftLemmas.{cell_added, stamp_added}

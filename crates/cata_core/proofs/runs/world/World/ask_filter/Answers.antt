@@ -2,7 +2,7 @@ use Rattle.std.proofs.Common.{◌<◌, [], ◌∷◌, sym, subst, refl, length, 
 use Rattle.cata_core.specs.declared.answer.Answer.TheVariants.{Filter}
 use Rattle.catalogue.specs.Entries.{Entries}
 use Rattle.catalogue.specs.Asking.{Weighed, IsFilterAnswer}
-use Rattle.cata_core.specs.World.{at_sites}
+use Rattle.cata_core.specs.inner.World.{at_sites}
 use Rattle.catalogue.proofs.Basics.{append_nil}
 use Rattle.cata_core.proofs.WorldLemmas.{at_site, named_one}
 use Rattle.cata_core.proofs.runs.world.World.ask_filter.Goals as goal

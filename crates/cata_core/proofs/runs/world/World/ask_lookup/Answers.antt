@@ -5,7 +5,7 @@ use Rattle.catalogue.specs.declared.reply.Reply.{Reply}
 use Rattle.catalogue.specs.Entries.{Entries}
 use Rattle.catalogue.specs.Reply.{reply_of}
 use Rattle.catalogue.specs.Asking.{IsLookupAnswer}
-use Rattle.cata_core.specs.World.{at_sites}
+use Rattle.cata_core.specs.inner.World.{at_sites}
 use Rattle.catalogue.proofs.Basics.{append_nil}
 use Rattle.cata_core.proofs.WorldLemmas.{at_site, named_one}
 use Rattle.cata_core.proofs.runs.world.World.ask_lookup.Goals as goal

@@ -3,8 +3,8 @@ use Rattle.std.proofs.lemmas.Result.{IfErr-weaker}
 use Rattle.std.proofs.lemmas.List.{length-set}
 use Rattle.cata_core.specs.declared.step.Step.TheVariants.{Deliver}
 use Rattle.cata_core.specs.WorldHeld.{PostedCells}
-use Rattle.cata_core.specs.PlayFault.{RefusesStep}
-use Rattle.cata_core.specs.World.{held_in, IsClashAt}
+use Rattle.cata_core.specs.inner.PlayFault.{RefusesStep}
+use Rattle.cata_core.specs.inner.World.{held_in, IsClashAt}
 use Rattle.catalogue.proofs.Basics.{append_nil}
 use Rattle.cata_core.proofs.WorldLemmas.{delivered_sound, delivered_held, delivered_fault}
 use Rattle.cata_core.proofs.WorldLemmas.{addressed}

@@ -1,7 +1,7 @@
 use Rattle.std.proofs.Common.{◌∙◌, ◌<◌, ap, sym, subst, inl, refl, [], length, arith, rules}
 use Rattle.std.proofs.lemmas.List.{get_or-set_other, length-set}
 use Rattle.catalogue.specs.Entries.{Agree, joined}
-use Rattle.cata_core.specs.World.{held_in, at_sites}
+use Rattle.cata_core.specs.inner.World.{held_in, at_sites}
 use Rattle.catalogue.proofs.Basics.{append_nil}
 use Rattle.cata_core.proofs.WorldLemmas.{merged_self, merged, at_site, named_two}
 use Rattle.cata_core.proofs.runs.world.World.merge.Goals as goal

@@ -2,7 +2,7 @@ use Rattle.std.proofs.Common.{◌≡◌, ◌<◌, ◌∙◌, ◌++◌, ◌∷◌
 use Rattle.std.specs.Prelude.{All}
 use Rattle.cata_core.specs.Delta.{delta_of}
 use Rattle.cata_core.specs.WorldHeld.{PostedCells}
-use Rattle.cata_core.specs.World.{at_sites}
+use Rattle.cata_core.specs.inner.World.{at_sites}
 use Rattle.catalogue.proofs.Basics.{append_nil}
 use Rattle.cata_core.proofs.WorldLemmas.{posted_step, posted_addressed, at_site, named_one}
 use Rattle.cata_core.proofs.runs.world.World.post.Goals as goal

@@ -3,7 +3,7 @@ use Rattle.std.specs.Prelude.{All}
 use Rattle.cata_core.specs.Delta.{summary_of}
 use Rattle.cata_core.specs.Summary.{SummaryState}
 use Rattle.cata_core.specs.WorldHeld.{ToldStamps}
-use Rattle.cata_core.specs.World.{at_sites}
+use Rattle.cata_core.specs.inner.World.{at_sites}
 use Rattle.catalogue.proofs.Basics.{append_nil}
 use Rattle.cata_core.proofs.WorldLemmas.{told_step, told_addressed, at_site, named_one}
 use Rattle.cata_core.proofs.runs.world.World.tell.Goals as goal

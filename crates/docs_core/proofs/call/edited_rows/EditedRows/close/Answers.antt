@@ -1,8 +1,9 @@
 use Rattle.std.proofs.Common.{◌∙◌, ◌++◌, [], ◌∷◌, append_assoc, subst, sym}
 use Rattle.std.specs.FinMap.Entries.{is_sorted-put, put}
-use Rattle.cell_core.specs.Entry.{EntryKey, key_cmp, key_cmp_total}
+use Rattle.cell_core.specs.Entry.{EntryKey, key_cmp}
+use Rattle.cell_core.specs.inner.Entry.{key_cmp_total}
 use Rattle.site_docs.specs.RowsDraft.{HoldsRows}
-use Rattle.docs_core.specs.EditedRows.{after_key, before_key}
+use Rattle.docs_core.specs.inner.EditedRows.{after_key, before_key}
 use Rattle.docs_core.proofs.EditedRowsLemmas.{put_between}
 use Rattle.docs_core.proofs.call.edited_rows.EditedRows.close.Goals as goal
 

@@ -1,7 +1,7 @@
 use Rattle.std.proofs.Common.{subst}
 use Rattle.std.proofs.lemmas.Result.{err_from_is_err_and}
 use Rattle.site_docs.specs.RowsDraft.{HoldsRows}
-use Rattle.docs_core.specs.JoinedRows.{left_of}
+use Rattle.docs_core.specs.inner.JoinedRows.{left_of}
 use Rattle.docs_core.proofs.JoinedRowsLemmas.{joining_agrees, joining_ends}
 use Rattle.docs_core.proofs.call.joined_rows.JoinedRows.whole.Goals as goal
 

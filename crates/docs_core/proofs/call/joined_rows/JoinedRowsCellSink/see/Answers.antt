@@ -1,6 +1,6 @@
 use Rattle.std.proofs.Common.{◌∙◌, ◌+◌, [], ◌∷◌, ap, length-append, sym}
 use Rattle.site_docs.specs.Sink.{entry_of}
-use Rattle.docs_core.specs.JoinedRows.{left_of}
+use Rattle.docs_core.specs.inner.JoinedRows.{left_of}
 use Rattle.docs_core.proofs.JoinedRowsLemmas.{known_stays, none_known}
 use Rattle.docs_core.proofs.call.joined_rows.JoinedRowsCellSink.see.Goals as goal
 

@@ -1,6 +1,6 @@
 use Rattle.std.proofs.Common.{◌∙◌, ◌++◌, [], ◌∷◌, Some, ap, refl, subst}
 use Rattle.cell_core.specs.declared.cell.Cell.{Cell}
-use Rattle.docs_core.specs.SyncedRows.{IsSyncedTo, untested}
+use Rattle.docs_core.specs.inner.SyncedRows.{IsSyncedTo, untested}
 use Rattle.docs_core.proofs.StampedRowsLemmas.{stamped_more}
 use Rattle.docs_core.proofs.call.stamped_rows.StampedRows.add.Goals as goal
 

@@ -5,8 +5,8 @@ use Rattle.cata_core.specs.Site.{SiteState}
 use Rattle.site_docs.proofs.ReadingOneDocument.{one_site}
 use Rattle.site_docs.specs.Reading.{IsSiteText}
 use Rattle.docs_core.specs.UpdatingChanges.{Makes}
-use Rattle.docs_core.specs.StampedRows.{AreStamped}
-use Rattle.docs_core.specs.SyncedRows.{untested}
+use Rattle.docs_core.specs.inner.StampedRows.{AreStamped}
+use Rattle.docs_core.specs.inner.SyncedRows.{untested}
 use Rattle.docs_core.proofs.StampedRowsLemmas.{stamped_all, stamped_made}
 use Rattle.docs_core.proofs.SyncedRowsLemmas.{synced_all, synced_whole}
 use Rattle.docs_core.proofs.call.stamped_rows.StampedRows.close.Goals as goal

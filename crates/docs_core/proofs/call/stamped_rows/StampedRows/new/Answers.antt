@@ -1,5 +1,5 @@
 use Rattle.std.proofs.Common.{refl}
-use Rattle.docs_core.specs.SyncedRows.{untested}
+use Rattle.docs_core.specs.inner.SyncedRows.{untested}
 use Rattle.docs_core.proofs.StampedRowsLemmas.{stamped_none}
 use Rattle.docs_core.proofs.SyncedRowsLemmas.{synced_none}
 use Rattle.docs_core.proofs.call.stamped_rows.StampedRows.new.Goals as goal

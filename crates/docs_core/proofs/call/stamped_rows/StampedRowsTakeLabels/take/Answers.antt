@@ -2,7 +2,7 @@ use Rattle.std.proofs.Common.{◌∙◌, subst, sym}
 use Rattle.std.proofs.lemmas.Option.{IfSome_then}
 use Rattle.cell_core.specs.Entry.{EntryKey}
 use Rattle.docs_core.specs.ImportingLabels.{puts_of}
-use Rattle.docs_core.specs.StampedRows.{HoldsStamped}
+use Rattle.docs_core.specs.inner.StampedRows.{HoldsStamped}
 use Rattle.docs_core.proofs.StampedRowsLemmas.{puts_above, puts_more}
 use Rattle.docs_core.proofs.call.stamped_rows.StampedRowsTakeLabels.take.Goals as goal
 

@@ -27,7 +27,7 @@ use contract.Monad.{fact}
 use Rattle.std.specs.Prelude.{IsSome}
 use Rattle.front_c.specs.SiteHandleHeld.{Share}
 use Rattle.front_c.specs.SiteHandleHeld.{site_held}
-use Rattle.front_c.specs.Handles.{with_site}
+use Rattle.front_c.specs.inner.Handles.{with_site}
 use Rattle.front_c.proofs.SiteHandleOptions.{some_of}
 use denote.Struct.Struct.{Struct}
 use denote.Struct.Owning.{shape, to}

@@ -1,6 +1,6 @@
 use Rattle.std.proofs.Common.{◌∙◌, ◌<◌, ◌^◌, ap, rules, subst, sym}
 use Rattle.cell_core.specs.declared.stamp.Stamp.{Stamp}
-use Rattle.site_docs.specs.PlainRows.{row_before}
+use Rattle.site_docs.specs.inner.PlainRows.{row_before}
 use Rattle.site_docs.proofs.plain.written_rows.ReadRow.new.Goals as goal
 
 -- the row as far as its label

@@ -1,0 +1,14 @@
+pub mod Asking
+pub mod CataFault
+pub mod CatalogueCounts
+pub mod CatalogueFlat
+pub mod CatalogueNested
+pub mod CellRefusal
+pub mod Entries
+pub mod EntriesBorrowed
+pub mod EntriesEq
+pub mod Equality
+pub mod Languages
+pub mod LiveIn
+pub mod LiveReplies
+pub mod ReplyBorrowed

@@ -1,0 +1,10 @@
+pub mod Cell
+pub mod Chunks
+pub mod Entry
+pub mod InterleaveMissing
+pub mod JoinBasis
+pub mod KeyTextOrder
+pub mod KeyedLaws
+pub mod KeyedPlaces
+pub mod StampEq
+pub mod StampLaterLaws

@@ -1,0 +1,4 @@
+pub mod ArgumentsWords
+pub mod Program
+pub mod TaskActs
+pub mod TaskValues

@@ -1,0 +1,2 @@
+pub mod ObjectMembersRead
+pub mod ScanningArrays

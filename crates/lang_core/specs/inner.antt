@@ -1,0 +1,13 @@
+pub mod Kind
+pub mod LookupText
+pub mod LowerText
+pub mod LowerTextBytes
+pub mod MatchingFronts
+pub mod Parts
+pub mod Pieces
+pub mod RangeSyntax
+pub mod Stage
+pub mod Subtag
+pub mod SubtagsRuns
+pub mod Tag
+pub mod TagTable

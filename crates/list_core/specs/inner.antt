@@ -1,0 +1,11 @@
+pub mod Buckets
+pub mod Deciding
+pub mod Fallbacks
+pub mod Field
+pub mod Fingerprint
+pub mod FirstTried
+pub mod HashedRanges
+pub mod Index
+pub mod Item
+pub mod PackedTag
+pub mod Weight

@@ -1,0 +1,3 @@
+pub mod AscendingLabels
+pub mod AscendingMap
+pub mod MembersRowsSeen

@@ -1,0 +1,9 @@
+pub mod BundleByMessage
+pub mod ByMessage
+pub mod Chosen
+pub mod Draft
+pub mod LiveCells
+pub mod LiveCellsLookup
+pub mod OfferedCells
+pub mod OneMessage
+pub mod StatusCounts

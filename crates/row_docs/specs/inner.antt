@@ -1,0 +1,9 @@
+pub mod Cuts
+pub mod CutsSeen
+pub mod HeaderSeen
+pub mod HeaderTests
+pub mod PlainTexts
+pub mod TestedHeaders
+pub mod WritingEnvelope
+pub mod WritingSeen
+pub mod WritingTexts

@@ -1,0 +1,3 @@
+pub mod StepsSeen
+pub mod StepsWritten
+pub mod Writing

@@ -1,0 +1,3 @@
+pub mod LackedRows
+pub mod ShownCells
+pub mod Writing
