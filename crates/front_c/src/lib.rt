@@ -488,9 +488,9 @@ pub extern "C" fn sw_refusal_text(number: u32, out: &mut [u8], told: &mut Told) 
     }
 }
 
-/// Makes the rules of an offer and a table of fallbacks, which are read here for their refusals: the
-/// offer first (8, 9), then the table (8, 31), or out of memory (26). If one comes the rules are as
-/// they were. They borrow both texts.
+/// Makes the rules of an offer and a table of fallbacks, which are read here for their refusals:
+/// the offer first (8, 9), then the table (8, 31). Out of memory (26) may come before. After a
+/// refusal the rules are as they were. They borrow both texts.
 #[unsafe(no_mangle)]
 pub extern "C" fn sw_rules_new<'a>(
     alloc: Global,

@@ -114,7 +114,8 @@ pub(crate) fn report_pick(
     ensures { ReportsEither (IsPickedOffered (offers_of offering.entry) (field_text field.entry)
         (default_of default.now) (lines_of tags.now))
         (RefusesPickOffered (offers_of offering.entry) (field_text field.entry)
-        (default_of default.now) (lines_of tags.now)) ReportsPicked out.old out.new told.new result }
+        (default_of default.now) (lines_of tags.now))
+        ReportsPicked out.old out.new told.new result }
 {
     match pick(alloc, offering, field, default_of(default), tags) {
         Ok(picked) => report_picked(picked, out, told),

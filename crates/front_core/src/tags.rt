@@ -15,7 +15,9 @@ use std::convert::AsStr;
 /// Tags that are offered, as they were passed in, and the languages that they spell, in step.
 #[derive(Drop)]
 pub(crate) struct OfferedTags<'a> {
+    /// The tags.
     pub names: Vec<&'a [u8]>,
+    /// Their languages.
     pub langs: Vec<Lang>,
 }
 

@@ -8,6 +8,7 @@ use Rattle.front_c.specs.Reporting.{ReportsAnswer, ReportsEither}
 use Rattle.front_c.proofs.ReportingAskedLemmas.{field_as, report_as}
 use Rattle.front_c.proofs.sw_filter.Goals as goal
 
+-- The answer of the filter is reported for the field as the flags read it.
 pub returns-in-Some : goal.returns-in-Some
 returns-in-Some c =
     let tags = lines_of c.args.tags.now in
@@ -21,5 +22,6 @@ returns-in-Some c =
     read c.args.out.now c.report.new.out c.report.new.told _ (search rules)
     (report_as c.filter_tags.result (IsOfferedFilter offers read tags)
     (RefusesOfferedFilter offers read tags)
-    c.args.out.now c.report.new.out c.report.new.told _ (rw (← c.offering.ensures) c.filter_tags.ensures)
+    c.args.out.now c.report.new.out c.report.new.told _
+    (rw (← c.offering.ensures) c.filter_tags.ensures)
     c.report.ensures))
