@@ -1,6 +1,7 @@
 #!/usr/bin/env python3
 """Measures the memory of the command for documents of 16 MiB that it refuses for one row, of sites,
-deltas, summaries and scripts: it takes at most six bytes for each byte of them.
+deltas, summaries and scripts: it takes at most six bytes for each byte of them, and fourteen of a
+summary whose kind or version is an array, since it may still be one with labels.
 
 Takes build/lexicat, or the command that LEXICAT names. Needed: GNU time, which is small, as a
 process begins with the peak of the one that starts it.
@@ -16,6 +17,8 @@ from hostile import LEXICAT, Kind, tap  # noqa: E402
 
 SIZE = 16 * 2**20
 MOST = 6
+HEAD = "arrays for "
+MOST_OF_HEADS = {"summary": 14}
 # What the command takes for any input, in bytes.
 CONSTANT = 8 * 2**20
 TIME = "/usr/bin/time"
@@ -58,7 +61,7 @@ def documents(kind):
     for member in ('"kind":', '"version":'):
         first, found, last = given.rpartition(member)
         _, comma, rest = last.partition("," if "," in last else "}")
-        yield f"arrays for {member}", words, f"{first}{found}{many('[]')}{comma}{rest}"
+        yield HEAD + member, words, f"{first}{found}{many('[]')}{comma}{rest}"
 
 
 def refused(words, given):
@@ -78,7 +81,7 @@ def takes_little(kind):
     for case, words, given in documents(kind):
         taken = (refused(words, given) - CONSTANT) / len(given)
         most = max(most, taken)
-        if taken > MOST:
+        if taken > (MOST_OF_HEADS.get(kind.name, MOST) if case.startswith(HEAD) else MOST):
             faults.append(f"{case}: {taken:.1f} bytes a byte")
     tap.report(f"a row of a {kind.name} of version {kind.version}", faults,
                f"{most:.1f} bytes a byte at most")

@@ -29,7 +29,7 @@ static const struct {
     {{"pick", "--all", "de, en;q=0.5", "en-US", "de-AT"}, ""},
     {{"pick", "en", "e"}, ""},
     {{"explain", "9"}, ""},
-    {{"explain", "31"}, ""},
+    {{"explain", "32"}, ""},
     {{"new", "--site", "paris"}, ""},
     {{"--version"}, ""},
     {{"help", "sync"}, ""},

@@ -64,7 +64,7 @@ check 'what refuses is built' \
 try 0 '' pick --lenient --default en 'de_CH, fr;q=0.5' en de
 try 1 '' pick --all ja en
 try 3 '' pick en e
-try 2 '' explain 31
+try 2 '' explain 32
 try 0 '' new --site paris
 try 0 '' help sync
 try 2 '' sink

@@ -6,6 +6,7 @@
 cd "$(dirname "$0")/../../../../.." || exit 1
 . bindings/python/tests/tools/file/site.sh
 put='put --id hi --lang en Hello'
+top=$PWD
 
 # holds_lock: another one has the lock of paris.json, until lets_go.
 holds_lock() {
@@ -104,6 +105,20 @@ as() {
     setpriv --reuid "$user" --regid "$user" --groups 64000 --no-new-privs "$@"
 }
 
+# can_be_read: the programs are copies, which any user can read wherever the repository is.
+can_be_read() {
+    cp "$LEXICAT" "$part/lexicat"
+    cp -r "$PACKAGE" "$part/package"
+    cp -rL "$LIBRARIES" "$part/lib"
+    (cd "$top" && tools/programs "$part/bin" "$part/package" "$part/lib")
+    chmod -R a+rX "$part/package" "$part/lib" "$part/bin"
+    LEXICAT=$part/lexicat
+    PATH=$part/bin:$PATH
+    PYTHONPATH=$part/package
+    SILKWARAM_LIBRARY=$part/lib/libsilkwaram.so.0
+    SILKWARAM_COMMAND_LIBRARY=$part/lib/libsilkwaram-command.so.0
+}
+
 # Two users who may both write the site, and one who may not; a folder that nobody may write.
 two_users() {
     local file put
@@ -112,7 +127,7 @@ two_users() {
     fi
     site
     chmod 755 "$room" "$part" .
-    as 64001 lexicat-file --version > output 2>&1 || leaves_out 'another user cannot read the package'
+    can_be_read
     mkdir shared
     chgrp 64000 shared
     chmod 775 shared
