@@ -154,6 +154,7 @@ install-command: build/lexicat
 	done
 	"$$(tools/programs --python)" -m compileall -q $(if $(DESTDIR),-s '$(DESTDIR)' -p /) "$(PACKAGE)"
 	chmod -R u=rwX,go=rX "$(PACKAGE)"
+	install -m 644 data/cldr.fallbacks data/LICENSE-UNICODE "$(SHARE)/silkwaram"
 	for name in $(TOOLS); do \
 		install -m 644 man/$$name.1 "$(SHARE)/man/man1/$$name.1" || exit 1; \
 	done
@@ -183,6 +184,7 @@ uninstall:
 	rm -f "$(SHARE)/zsh/site-functions/_lexicat-file" "$(SHARE)/zsh/site-functions/_lexicat-programs"
 	rm -f "$(SHARE)/fish/vendor_completions.d/lexicat-file.fish"
 	rm -rf "$(PACKAGE)"
+	rm -f "$(SHARE)/silkwaram/cldr.fallbacks" "$(SHARE)/silkwaram/LICENSE-UNICODE"
 	rm -f "$(UNITS)/lexicat-exchange@.timer" "$(UNITS)/lexicat-exchange@.service"
 	-rmdir "$(UNITS)" "$(dir $(UNITS))" 2> /dev/null
 	-rmdir "$(SHARE)/silkwaram" 2> /dev/null

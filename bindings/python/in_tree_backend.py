@@ -1,12 +1,12 @@
 """Builds the package with Python's standard library alone, so that an installation fetches nothing.
 
-These are the calls of PEP 517 that pip makes. The wheel has the modules as they are, with the page of
-the editor. With the setting `library`, the path of libsilkwaram.so, it has the library too, and bears
-the tag of the library's machine; that wants `readelf` of binutils. With the setting `command`, the
-path of libsilkwaram-command.so, the programs run without another library. With the setting
-`browser`, the folder that `make browser` builds, it has the module that the editor's page runs. With
-the setting `licences`, a file that `tools/third-party` prints, it has the licences of what is linked
-into the libraries:
+These are the calls of PEP 517 that pip makes. The wheel has the modules as they are, with the page
+of the editor and the table of fallbacks. With the setting `library`, the path of libsilkwaram.so,
+it has the library too, and bears the tag of the library's machine; that wants `readelf` of binutils.
+With the setting `command`, the path of libsilkwaram-command.so, the programs run without another
+library. With the setting `browser`, the folder that `make browser` builds, it has the module that
+the editor's page runs. With the setting `licences`, a file that `tools/third-party` prints, it has
+the licences of what is linked into the libraries:
 
     pip wheel --config-settings library=$PWD/build/lib/libsilkwaram.so \\
         --config-settings command=$PWD/build/lib/libsilkwaram-command.so \\
@@ -34,7 +34,8 @@ import zipfile
 
 HERE = os.path.dirname(os.path.abspath(__file__))
 NAME = "silkwaram"
-LICENCES = ["LICENSE-APACHE", "LICENSE-MIT"]
+LICENCES = ["LICENSE-APACHE", "LICENSE-MIT", "LICENSE-UNICODE"]
+TABLE = "cldr.fallbacks"
 # The libraries by the settings that name them.
 SONAMES = {"library": "libsilkwaram.so.0", "command": "libsilkwaram-command.so.0"}
 # The C of each.
@@ -73,11 +74,17 @@ def make_calls():
 
 
 def licences(settings):
-    """The licence files at the top of the repository, if this is there, and that of what is linked."""
-    folders = [os.path.join(HERE, it) for it in ("", "../..")]
+    """The licence files of the repository, if this is there, and that of what is linked."""
+    folders = [os.path.join(HERE, it) for it in ("", "../..", "../../data")]
     paths = [(name, os.path.join(it, name)) for name in LICENCES for it in folders]
     paths.append(("THIRD-PARTY", settings.get("licences", "")))
     return {name: read(path) for name, path in paths if os.path.isfile(path)}
+
+
+def table():
+    """The table of fallbacks in the repository, if this is there, or beside this file."""
+    paths = [os.path.join(HERE, it, TABLE) for it in ("", "../../data")]
+    return {TABLE: read(path) for path in paths if os.path.isfile(path)}
 
 
 def metadata(licence_names):
@@ -184,7 +191,7 @@ def build_sdist(sdist_directory, config_settings=None):
     files.update({f"portable/{it}": read(os.path.join(portable, it)) for it in names})
     files.update({f"browser/{it}": read(os.path.join(browser, it)) for it in MODULE})
     found = licences(settings)
-    files.update({**found, "PKG-INFO": metadata(found)})
+    files.update({**found, **table(), "PKG-INFO": metadata(found)})
     packed = io.BytesIO()
     with tarfile.open(fileobj=packed, mode="w", format=tarfile.PAX_FORMAT) as archive:
         for path, content in sorted(files.items()):
@@ -205,6 +212,7 @@ def build_wheel(wheel_directory, config_settings=None, metadata_directory=None):
     settings, info = found_beside(config_settings), f"{NAME}-{version()}.dist-info"
     make_calls()
     files = {f"{NAME}/{it}": read(f"src/{NAME}/{it}") for it in modules()}
+    files.update({f"{NAME}/{it}": content for it, content in table().items()})
     browser = settings.get("browser")
     if browser:
         files.update({f"{NAME}/editor/page/{it}": read(os.path.join(browser, it)) for it in MODULE})

@@ -43,10 +43,14 @@ has_each_program() {
 has_licences() {
     local found it
     found=$(find "$room/venv" -path '*silkwaram*.dist-info/licenses/*' | sed 's|.*/||' | sort)
-    [ "$found" = "$(printf '%s\n' LICENSE-APACHE LICENSE-MIT THIRD-PARTY)" ] || return 1
+    [ "$found" = "$(printf '%s\n' LICENSE-{APACHE,MIT,UNICODE} THIRD-PARTY)" ] || return 1
     for it in clap serde_json memchr; do
         grep -qE "^---- (.*, )?$it(,|$)" "$room/licences" || return 1
     done
+}
+
+has_table() {
+    cmp data/cldr.fallbacks "$room"/venv/lib/python3*/site-packages/silkwaram/cldr.fallbacks
 }
 
 # Paris writes, Tokyo translates by a PO file; each exchanges with the server of the editor.
@@ -96,6 +100,7 @@ day_by() { # the address of the server
 
 check 'the wheel is installed without a network' is_installed
 check 'it has the licences of what is linked into it' has_licences
+check 'it has the table of fallbacks' has_table
 check 'each program is there' has_each_program
 check 'two offices work for a day' has_a_day
 end
