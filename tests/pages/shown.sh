@@ -1,8 +1,9 @@
 # shellcheck shell=bash disable=SC2154
 # What the tests of pages share: each command line that a page shows ("$ .." in a block marked
-# console) is run, a page at a time in an empty folder, and what it prints is compared with the
-# lines below it. A test sources this after tests/lib/tap.sh. It takes build/lexicat, or the command
-# in the folder that LEXICAT_DIR names, and the programs of this repository.
+# console) is run, a page at a time in a folder that has the repository's `data` alone, and what it
+# prints is compared with the lines below it. A test sources this after tests/lib/tap.sh. It takes
+# build/lexicat, or the command in the folder that LEXICAT_DIR names, and the programs of this
+# repository.
 #
 # A page may have these marks, each on a line of its own:
 #   <!-- needs: jq -->              the page is left out where the program is not installed
@@ -92,6 +93,7 @@ check_page() {
     fi
     rm -rf "$room/at"
     mkdir "$room/at"
+    ln -s "$PWD/data" "$room/at/data"
     : > "$room/shown"
     read_blocks "$page"
     check "$page" runs_as_shown
