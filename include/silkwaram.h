@@ -224,29 +224,6 @@ int32_t sw_site_bundle(sw_site *site, const sw_rules *rules, uint32_t flags, con
                        const uint8_t *dflt, size_t dflt_len, uint8_t *out, size_t out_len, sw_told *told);
                        /* since 0.4 */
 
-/* The library itself takes no NULL for `rules`, and these macros pass it what NULL stands for. (So does whoever calls
- * it from another language, or through a pointer.) */
-static inline const sw_rules *sw_rules_or_none(const sw_rules *rules) {
-  static const sw_rules none = {NULL, 0, NULL, 0};
-  return rules ? rules : &none;
-}
-static inline const sw_rules *sw_rules_or_all(const sw_rules *rules) {
-  static const sw_rules all = {(const uint8_t *)"*", 1, NULL, 0};
-  return rules ? rules : &all;
-}
-#define SW_ASK_TAGS(call, flags, rules, ...) call(flags, sw_rules_or_all(rules), __VA_ARGS__)
-#define sw_pick(...) SW_ASK_TAGS(sw_pick, __VA_ARGS__)
-#define sw_filter(...) SW_ASK_TAGS(sw_filter, __VA_ARGS__)
-#define SW_ASK_SITE(call, site, rules, ...) call(site, sw_rules_or_none(rules), __VA_ARGS__)
-#define SW_ASK_TEXT(call, text, text_len, rules, ...) call(text, text_len, sw_rules_or_none(rules), __VA_ARGS__)
-#define sw_site_lookup(...) SW_ASK_SITE(sw_site_lookup, __VA_ARGS__)
-#define sw_site_text(...) SW_ASK_SITE(sw_site_text, __VA_ARGS__)
-#define sw_site_filter(...) SW_ASK_SITE(sw_site_filter, __VA_ARGS__)
-#define sw_site_bundle(...) SW_ASK_SITE(sw_site_bundle, __VA_ARGS__)
-#define sw_text_lookup(...) SW_ASK_TEXT(sw_text_lookup, __VA_ARGS__)
-#define sw_text_text(...) SW_ASK_TEXT(sw_text_text, __VA_ARGS__)
-#define sw_text_filter(...) SW_ASK_TEXT(sw_text_filter, __VA_ARGS__)
-
 /* ---- Sites that are made and edited.
  *
  * No edit is seen through another handle: a server publishes a new state by sharing the edited handle anew, and frees
@@ -383,6 +360,31 @@ int32_t sw_site_share(sw_site *site, sw_site *other); /* since 0.2 */
 /* Lets a site go and leaves zeros in the handle. The last handle of a site frees its memory (tried, not proved). A
  * handle of zeros stays as it is. */
 void sw_site_free(sw_site *site); /* since 0.2 */
+
+/* ---- NULL in place of rules.
+ *
+ * The library itself takes none, and these macros pass it what NULL stands for. (So does whoever calls it from another
+ * language, or through a pointer.) */
+static inline const sw_rules *sw_rules_or_none(const sw_rules *rules) {
+  static const sw_rules none = {NULL, 0, NULL, 0};
+  return rules ? rules : &none;
+}
+static inline const sw_rules *sw_rules_or_all(const sw_rules *rules) {
+  static const sw_rules all = {(const uint8_t *)"*", 1, NULL, 0};
+  return rules ? rules : &all;
+}
+#define SW_ASK_TAGS(call, flags, rules, ...) call(flags, sw_rules_or_all(rules), __VA_ARGS__)
+#define sw_pick(...) SW_ASK_TAGS(sw_pick, __VA_ARGS__)
+#define sw_filter(...) SW_ASK_TAGS(sw_filter, __VA_ARGS__)
+#define SW_ASK_SITE(call, site, rules, ...) call(site, sw_rules_or_none(rules), __VA_ARGS__)
+#define SW_ASK_TEXT(call, text, text_len, rules, ...) call(text, text_len, sw_rules_or_none(rules), __VA_ARGS__)
+#define sw_site_lookup(...) SW_ASK_SITE(sw_site_lookup, __VA_ARGS__)
+#define sw_site_text(...) SW_ASK_SITE(sw_site_text, __VA_ARGS__)
+#define sw_site_filter(...) SW_ASK_SITE(sw_site_filter, __VA_ARGS__)
+#define sw_site_bundle(...) SW_ASK_SITE(sw_site_bundle, __VA_ARGS__)
+#define sw_text_lookup(...) SW_ASK_TEXT(sw_text_lookup, __VA_ARGS__)
+#define sw_text_text(...) SW_ASK_TEXT(sw_text_text, __VA_ARGS__)
+#define sw_text_filter(...) SW_ASK_TEXT(sw_text_filter, __VA_ARGS__)
 
 #ifdef __cplusplus
 }
