@@ -19,18 +19,19 @@ from unittest import mock
 
 import silkwaram
 from cases import PARIS, ROW, Case, document, run_python, side_by_side, written
-from silkwaram import Choice, Label, Refused, Site, pick
+from silkwaram import Choice, Label, Refused, Site, filter_tags, pick
 from silkwaram._calls import CALLS
 
 HEADER = os.path.join(os.path.dirname(__file__), "../../../include/silkwaram.h")
 TOOL = os.path.join(os.path.dirname(__file__), "../../../tools/calls")
 BUFFERS = (bytes, bytearray, memoryview, lambda text: array.array("B", text))
 TEXT = "must be str or bytes-like, not"
+TABLE = "zh-TW=zh-Hant, no=nb, en=en-US"
 
 
 class Picks(Case):
     def test_picks(self):
-        two = ["en", "fr"]
+        two, by_both = ["en", "fr"], {"fallbacks": TABLE, "widen": True}
         for case, field, tags, words, wanted in [
             ("as it was given", "da, en-GB;q=0.8, en;q=0.7", ["FR", "EN"], {}, "EN"),
             ("equal without case: the first", "en", ["fr", "En", "en"], {}, "En"),
@@ -43,6 +44,13 @@ class Picks(Case):
             ("a header of bytes", b"fr", iter(two), {}, "fr"),
             ("extended ranges", "de-*-DE", ["de", "de-DE"], {"extended": True}, "de-DE"),
             ("malformed, passed over", "en_US, fr;q=0.5", two, {"lenient": True}, "fr"),
+            ("next by a table", "no, da", ["da", "NB"], {"fallbacks": TABLE}, "NB"),
+            ("a table before regions", "en", ["en-au", "en-us"], by_both, "en-us"),
+            ("a table and a default", "ja", ["nb"], {"fallbacks": TABLE, "default": "no"}, None),
+            ("a tag that is not offered", "fr, en", two, {"offer": "*, fr;q=0"}, "en"),
+            ("a default that is not", "ja", two, {"offer": b"fr", "default": "en"}, None),
+            ("all are offered", "x-note", ["x-note"], {}, "x-note"),
+            ("an empty offer", "x-note", ["x-note"], {"offer": ""}, None),
         ]:
             with self.subTest(case):
                 self.assertEqual(pick(field, tags, **words), wanted)
@@ -63,6 +71,21 @@ class Picks(Case):
             " (each element of a field is a range, with or without a weight"
             " (RFC 9110 sections 12.4.2 and 12.5.4))",
         )
+
+    def test_rules_that_are_refused(self):
+        fault = self.refuses(31, pick, "e n", ["e n"], fallbacks="en=fr, EN=de")
+        self.assertEqual((fault.code, fault.offset), ("fallback-malformed", 7))
+        self.refuses(8, pick, "e n", ["en"], fallbacks="," * 65536)
+        for ask, words in (pick, {"fallbacks": "e"}), (filter_tags, {}):
+            fault = self.refuses(9, ask, "e n", ["e n"], offer="fr, e n", **words)
+            self.assertEqual(fault.offset, 4)
+            self.refuses(8, ask, "e n", ["en"], offer="," * 65536, **words)
+        self.refuses(4, pick, "e n", ["en"], default="e", offer="e n", fallbacks="e")
+
+    def test_filter_by_an_offer(self):
+        for offer, tags in (None, ["en", "x-a"]), ("", ["en"]), ("x", ["x-a"]), ("fr", []):
+            found = filter_tags("*", ["en", "x-a"], offer=offer)
+            self.assertEqual([it.tag for it in found], tags)
 
     def test_buffers(self):
         for kind in BUFFERS:
@@ -86,6 +109,8 @@ class Picks(Case):
                 (lambda: pick("en", [b"en"]), "tags[0] must be str, not bytes"),
                 (lambda: pick("en", generated), "tags[1] must be str, not NoneType"),
                 (lambda: pick("en", ["en"], default=1), f"default {TEXT} int"),
+                (lambda: pick("en", ["en"], offer=1), f"offer {TEXT} int"),
+                (lambda: pick("en", ["en"], fallbacks=["a=b"]), f"fallbacks {TEXT} list"),
             ]
         )
 
@@ -188,6 +213,32 @@ class Questions(Case):
             shown = site.filter("m", "*", offer="x-note")
             self.assertEqual(shown, [Choice("x-note", 1000, ["ask Anna"])])
 
+    def test_fallbacks(self):
+        german, english = Label("de", ["Hallo", "Guten Tag"], False), Label("en", ["Hello"], False)
+        for site in self.ways():
+            for fallbacks, words, wanted in [
+                ("gsw=de, gsw-AT=en", {}, german),
+                ("gsw=bar, bar=de-AT", {}, german),
+                (b"GSW=en", {}, english),
+                ("gsw=de", {"offer": "en", "default": "en"}, english._replace(is_default=True)),
+                ("gsw=de", {"offer": "en"}, None),
+                ("de=en", {"default": "gsw"}, None),
+                ("", {}, None),
+            ]:
+                with self.subTest(fallbacks=fallbacks, words=words):
+                    words = {"fallbacks": fallbacks, **words}
+                    self.assertEqual(site.lookup("greeting", "gsw-CH", **words), wanted)
+                    texts = None if wanted is None else wanted.texts
+                    self.assertEqual(site.texts("greeting", "gsw-CH", **words), texts)
+                    self.assertEqual(site.text("greeting", "gsw-CH", **words), texts and texts[0])
+            for ask in (site.lookup, site.text, site.texts):
+                fault = self.refuses(31, ask, "m", "e n", fallbacks=" ,gsw=de,a")
+                self.assertEqual(fault.offset, 9)
+                self.refuses(8, ask, "m", "e n", fallbacks="," * 65536)
+                self.refuses(9, ask, "m", "en", offer="e n", fallbacks="a")
+                wrong = f"fallbacks {TEXT} int"
+                self.wrong_types([(lambda: ask("m", "en", fallbacks=5), wrong)])
+
     def test_offers_that_are_refused(self):
         for site in self.ways():
             for ask in (site.lookup, site.text, site.texts, site.filter):
@@ -262,6 +313,12 @@ class Sites(Case):
         ]:
             with self.subTest(field=field, default=default):
                 self.assertEqual(self.site.bundle(field, default=default), wanted)
+
+    def test_bundle_by_fallbacks(self):
+        wanted = {"greeting": {"de": ["Hallo", "Guten Tag"]}, "größe": {"ja": ROW}}
+        got = self.site.bundle("gsw", fallbacks="gsw=de, de=ja")
+        self.assertEqual(got, wanted)
+        self.assertEqual(self.refuses(31, self.site.bundle, "e n", fallbacks="gsw").offset, 0)
 
     def test_bundle_of_an_offer(self):
         notes = written(("m", "en", ["Hello"]), ("m", "x-note", ["ask Anna"]))

@@ -281,6 +281,21 @@ class Both(unittest.TestCase):
                         line = "fr" if "default" in words else "x-note"
                         self.assertEqual(ask(asked, [line])[2].decode(), body)
 
+    def test_fallbacks(self):
+        def text(given):
+            return given[LABEL]("greeting").texts[0]
+
+        table = {"fallbacks": "gsw=fr", "default": "en"}
+        with Site.open(document("Hello")) as site:
+            for name, middleware, app, ask in WAYS:
+                with self.subTest(name=name):
+                    asked = middleware(app(), tags=TAGS, **table)
+                    self.assertEqual(ask(asked, ["gsw-CH"])[2], b"fr")
+                    asked = middleware(app(text=text), site=site, **table)
+                    self.assertEqual(ask(asked, ["gsw-CH"])[2], b"Bonjour")
+                    asked = middleware(app(), tags=TAGS, offer="en", **table)
+                    self.assertEqual(ask(asked, ["gsw-CH"])[2], b"en")
+
     def test_which_tags_are_offered(self):
         for name, middleware, app, ask in WAYS:
             for offer, line, tag in [
@@ -369,6 +384,8 @@ class Both(unittest.TestCase):
                 (Refused, {"site": site, "message": "@title"}),
                 (Refused, {"site": site, "offer": "e n"}),
                 (Refused, {"tags": TAGS, "offer": "e n"}),
+                (Refused, {"site": site, "fallbacks": "en"}),
+                (Refused, {"tags": TAGS, "fallbacks": "en"}),
                 (ValueError, {"tags": TAGS, "offer": "fr"}),
             ]:
                 for name, middleware, app, _ in WAYS:

@@ -49,14 +49,16 @@ def given_or(text: Optional[Text], without: str) -> Text:
 
 
 @functools.lru_cache(maxsize=64)
-def _rules(offer: bytes) -> Rules:
-    """The rules of an offer, which keep its text. They are made once for many questions."""
-    return Rules(offer, len(offer))
+def _rules(offer: bytes, fallbacks: bytes) -> Rules:
+    """The rules of two texts, which they keep. They are made once for many questions."""
+    return Rules(offer, len(offer), fallbacks, len(fallbacks))
 
 
-def offered(offer: Optional[Text]) -> Rules:
-    """What readers are offered, as the calls take it: no text is all but private use."""
-    return _rules(_bytes("offer", given_or(offer, "")))
+def rules(offer: Optional[Text], fallbacks: Optional[Text] = None, without: str = "") -> Rules:
+    """The rules of a question as the calls take them. `without` is what no offer stands for: an
+    empty one is all but private use."""
+    table = _bytes("fallbacks", given_or(fallbacks, ""))
+    return _rules(_bytes("offer", given_or(offer, without)), table)
 
 
 def lines(tags: Iterable[str]) -> str:

@@ -35,9 +35,14 @@ class Handle(ctypes.Structure):
 
 
 class Rules(ctypes.Structure):
-    """What readers are offered."""
+    """What readers are offered, and which language is next to which."""
 
-    _fields_ = [("offer", c_char_p), ("offer_len", c_size_t)]
+    _fields_ = [
+        ("offer", c_char_p),
+        ("offer_len", c_size_t),
+        ("fallbacks", c_char_p),
+        ("fallbacks_len", c_size_t),
+    ]
 
 
 class Answer(NamedTuple):

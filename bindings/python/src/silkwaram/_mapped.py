@@ -7,7 +7,7 @@ import threading
 from copy import copy as copied
 from typing import Any, Optional, Tuple, Union
 
-from ._arguments import offered, words, wrong_type
+from ._arguments import rules, words, wrong_type
 from ._library import Answer, answered, library
 from ._questions import Calls, Questions
 from ._refusals import Refused, checked
@@ -141,7 +141,7 @@ class MappedSite(Questions):
         """Whether a first question to a file is answered; if not, each question raises its
         fault."""
         try:
-            asked = [offered(None), 0, *words(id="-", field="*", default="")]
+            asked = [rules(None), 0, *words(id="-", field="*", default="")]
             self._ask_file(file, self._calls.lookup, *asked)
         except ValueError as fault:
             file.fault = fault.with_traceback(None)

@@ -4,7 +4,7 @@ from typing import Any, List, NamedTuple, NoReturn, Optional, Type, TypeVar
 
 from . import _answers
 from ._answers import Choice, Label
-from ._arguments import Text, flags, given_or, offered, words
+from ._arguments import Text, flags, given_or, rules, words
 from ._arguments import place as counted_place
 from ._library import NOTHING, Answer
 
@@ -42,17 +42,19 @@ class Questions:
         lenient: bool = False,
         widen: bool = False,
         offer: Optional[Text] = None,
+        fallbacks: Optional[Text] = None,
     ) -> Optional[Label]:
         """Returns the label of a message that a reader gets, or None (RFC 4647 section 3.4).
 
-        The arguments are those of `pick`. `offer` says which languages readers are offered, as an
-        Accept-Language header is written; without it all but those of private use, as `x-note`.
+        The arguments are those of `pick`. Without an `offer` readers are offered all languages but
+        those of private use, as `x-note`.
 
-        Refused: the id (10), the default (1 to 4), the offer and the field (8, 9).
+        Refused: the id (10), the default (1 to 4), the offer (8, 9), the fallbacks (8, 31), the
+        field (8, 9).
         """
         texts = words(id=id, field=given_or(field, "*"), default=given_or(default, ""))
         how = flags(extended, lenient, widen)
-        answer = self._ask(self._calls.lookup, offered(offer), how, *texts)
+        answer = self._ask(self._calls.lookup, rules(offer, fallbacks), how, *texts)
         return None if answer.status == NOTHING else _answers.label(answer.text.decode())
 
     def text(
@@ -66,11 +68,12 @@ class Questions:
         lenient: bool = False,
         widen: bool = False,
         offer: Optional[Text] = None,
+        fallbacks: Optional[Text] = None,
     ) -> Optional[str]:
         """Returns the text at a place, from 0, of the label that `lookup` finds, or None."""
         texts = words(id=id, field=given_or(field, "*"), default=given_or(default, ""))
         how = flags(extended, lenient, widen)
-        asked = [offered(offer), how, *texts, counted_place(place)]
+        asked = [rules(offer, fallbacks), how, *texts, counted_place(place)]
         answer = self._ask(self._calls.text, *asked)
         return None if answer.status == NOTHING else answer.text.decode()
 
@@ -84,10 +87,11 @@ class Questions:
         lenient: bool = False,
         widen: bool = False,
         offer: Optional[Text] = None,
+        fallbacks: Optional[Text] = None,
     ) -> Optional[List[str]]:
         """Returns all texts of the label that `lookup` finds, or None."""
         how = {"extended": extended, "lenient": lenient, "widen": widen}
-        label = self.lookup(id, field, default=default, offer=offer, **how)
+        label = self.lookup(id, field, default=default, offer=offer, fallbacks=fallbacks, **how)
         return None if label is None else label.texts
 
     def filter(
@@ -101,11 +105,11 @@ class Questions:
     ) -> List[Choice]:
         """Returns the labels of a message that a reader takes, best first (RFC 4647 section 3.3).
 
-        Refused: the id (10), the field (8, 9).
+        Refused: the id (10), the offer, then the field (each 8, 9).
         """
         texts = words(id=id, field=given_or(field, "*"))
         how = flags(extended, lenient)
-        answer = self._ask(self._calls.filter, offered(offer), how, *texts)
+        answer = self._ask(self._calls.filter, rules(offer), how, *texts)
         return _answers.choices(answer.text.decode())
 
     def _ask(self, call: Any, *given: Any) -> Answer:

@@ -5,7 +5,7 @@ from typing import Any, Dict, List, Mapping, Optional, Union
 
 from . import _answers
 from ._answers import Change, LanguageMaps, Status
-from ._arguments import Text, flags, given_or, limit, moment, offered, words, wrong_type
+from ._arguments import Text, flags, given_or, limit, moment, rules, words, wrong_type
 from ._library import (
     CHECK_OWN, FIRST_ROOM, LABELS, USAGE, Answer, Handle, Told, answered, done, library,
 )
@@ -134,6 +134,7 @@ class Site(Questions):
         lenient: bool = False,
         widen: bool = False,
         offer: Optional[Text] = None,
+        fallbacks: Optional[Text] = None,
     ) -> LanguageMaps:
         """Returns all labels of one reader: of each message the one that `lookup` finds.
 
@@ -141,11 +142,11 @@ class Site(Questions):
         languages of the site are ranked by the field once. To keep the answer for other readers,
         `pick` a tag first and bundle for that.
 
-        Refused: the default (1 to 4), the field (8, 9).
+        Refused: the default (1 to 4), the offer (8, 9), the fallbacks (8, 31), the field (8, 9).
         """
         texts = words(field=given_or(field, "*"), default=given_or(default, ""))
         how = flags(extended, lenient, widen)
-        return self._maps(library.sw_site_bundle, offered(offer), how, *texts)
+        return self._maps(library.sw_site_bundle, rules(offer, fallbacks), how, *texts)
 
     # What a translator or an editor asks.
 

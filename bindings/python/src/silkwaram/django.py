@@ -13,6 +13,9 @@ fallbacks name, as `zh-CN` finds `zh-hans`, and its regions, as `pt` finds `pt-b
 app `silkwaram` gives them to templates. If `SILKWARAM_MAPPED` is True, the file is asked where it
 lies (`silkwaram.mapped`), and not opened. `SILKWARAM_OFFER` says which languages readers are
 offered, as an Accept-Language header is written; without it all but those of private use.
+
+`SILKWARAM_FALLBACKS` is a table of fallbacks of your own, as `zh-TW=zh-Hant, no=nb`, for the header
+and for labels: a language finds the one that is next to it there first.
 """
 import contextlib
 import functools
@@ -36,15 +39,17 @@ HEADER = "HTTP_ACCEPT_LANGUAGE"
 # Fields whose codes are kept, since readers send few different ones, and the length of the longest.
 KEPT_FIELDS = 1000
 KEPT_LENGTH = 500
+# The settings by which they are found.
+KEPT_OF = ("LANGUAGES", "LANGUAGE_CODE", "SILKWARAM_FALLBACKS", "SILKWARAM_WIDEN", "USE_I18N")
 
 
 class LocaleMiddleware(locale.LocaleMiddleware):  # type: ignore[misc]
     """Activates the language of the reader for a request; see the module."""
 
     def __init__(self, get_response: Any) -> None:
-        """Refused: the codes of LANGUAGES (1 to 4)."""
+        """Refused: SILKWARAM_FALLBACKS (8, 31), the codes of LANGUAGES (1 to 4)."""
         super().__init__(get_response)
-        pick(None, _codes())
+        pick(None, _codes(), fallbacks=_fallbacks())
 
     def process_request(self, request: Any) -> None:
         """Activates the language. Django's middleware reads a header that has one code alone."""
@@ -61,10 +66,13 @@ def label(request: Any, id: str) -> Optional[Label]:
 
     Within one request all labels come from the same version of the file. The request may be None.
 
-    Refused: the id (10), the file as by `Site.open`. A file that cannot be read is an OSError.
+    Refused: the id (10), SILKWARAM_OFFER (8, 9), SILKWARAM_FALLBACKS (8, 31), the file as by
+    `Site.open`. A file that cannot be read is an OSError.
     """
     field = f"{get_language() or settings.LANGUAGE_CODE}, {settings.LANGUAGE_CODE}"
-    return _site(request).lookup(id, field, lenient=True, widen=_widens(), offer=_offer())
+    return _site(request).lookup(
+        id, field, lenient=True, widen=_widens(), offer=_offer(), fallbacks=_fallbacks()
+    )
 
 
 def _site(request: Any) -> Questions:
@@ -89,6 +97,10 @@ def _offer() -> Optional[str]:
     return getattr(settings, "SILKWARAM_OFFER", None)
 
 
+def _fallbacks() -> Optional[str]:
+    return getattr(settings, "SILKWARAM_FALLBACKS", None)
+
+
 def _widens() -> bool:
     return bool(getattr(settings, "SILKWARAM_WIDEN", True))
 
@@ -110,7 +122,7 @@ def _codes() -> Dict[str, str]:
 @receiver(setting_changed)  # type: ignore[misc]
 def _forget_codes(*, setting: str, **_: Any) -> None:
     """Has the codes made anew if a test changes a setting."""
-    if setting in ("LANGUAGES", "LANGUAGE_CODE", "SILKWARAM_WIDEN", "USE_I18N"):
+    if setting in KEPT_OF:
         _codes.cache_clear()
         _kept_code.cache_clear()
 
@@ -133,7 +145,7 @@ def _found_code(field: str) -> str:
             # (as by Django, a language that is not there is the first of its regions)
             for code in list(codes.values()):
                 codes.setdefault(code.split("-")[0], code)
-        tag = pick(sent, codes, lenient=True)
+        tag = pick(sent, codes, lenient=True, fallbacks=_fallbacks())
     except Refused:
         return ""
     return "" if tag is None else codes[tag]

@@ -18,7 +18,8 @@ labels in languages of private use, as `x-note`, are shown to no reader, unless 
 
 A reader who excludes the default too still gets it, as RFC 9110 section 12.5.4 allows; with
 `strict` such a reader gets None. A language finds its regions too, as `en` finds `en-US`; without
-`widen` it does not, as RFC 4647's lookup has it.
+`widen` it does not, as RFC 4647's lookup has it. By a table of `fallbacks`, as `no=nb`, it finds
+the one that is next to it, before its regions.
 
 Each response gets `Vary: Accept-Language` beside what the application varies by; a `Vary` of `*`
 stays. It gets `Content-Language`, unless the application sets one, the language is None or `@none`,
@@ -33,7 +34,7 @@ from typing import (
     Tuple, TypeVar,
 )
 
-from . import Label, Refused, filter_tags, pick
+from . import Label, Refused, pick
 from ._questions import Questions
 from ._site_file import Path, SiteFile
 
@@ -94,6 +95,7 @@ class _LanguageMiddleware(Generic[App]):
         message: Optional[str] = None,
         default: Optional[str],
         offer: Optional[str] = None,
+        fallbacks: Optional[str] = None,
         lenient: bool = True,
         widen: bool = True,
         strict: bool = False,
@@ -102,29 +104,29 @@ class _LanguageMiddleware(Generic[App]):
 
         `offer` says which of the tags, or of the languages of a site, readers are offered, as an
         Accept-Language header is written; None is all tags, and all languages of a site but those
-        of private use.
+        of private use. `fallbacks` is as in `pick`.
 
-        Refused: the offer (8, 9), the default and the tags (1 to 4), the message (10), the file as
-        by `Site.open`. A file that cannot be read is an OSError.
+        Refused: the message (10), the default (1 to 4), the offer (8, 9), the fallbacks (8, 31),
+        the tags (1 to 4), the file as by `Site.open`. A file that cannot be read is an OSError.
         """
         if [tags, site, path].count(None) != 2:
             raise TypeError("one of tags, site and path must be given")
         if message is not None and tags is not None:
             raise TypeError("message is of a site")
         self.app, self._message, self._strict = app, message, strict
-        self._rules: Dict[str, Any] = {"default": default, "lenient": lenient, "widen": widen}
-        self._labels = {**self._rules, "offer": offer}
+        self._rules: Dict[str, Any] = {
+            "default": default, "lenient": lenient, "widen": widen,
+            "offer": offer or None, "fallbacks": fallbacks,
+        }
         self._site = site if path is None else SiteFile(path)
         # (what the application gives is refused here, and never in a request)
         if self._site is not None:
             shared = self._site.share()
             id = "-" if message is None else message
-            shared.lookup(id, None, **self._labels)
+            shared.lookup(id, None, **self._rules)
         elif tags is not None:
             self._tags = tags if isinstance(tags, (str, bytes)) else list(tags)
-            if offer:
-                self._tags = [it.tag for it in filter_tags(offer, self._tags)]
-            if pick(None, self._tags, default=default) is None and default is not None:
+            if pick(None, self._tags, **self._rules) is None and default is not None:
                 raise ValueError(f"the default {default!r} is not among the tags that are offered")
 
     def _reader(self, field: Optional[bytes]) -> _Reader:
@@ -144,7 +146,7 @@ class _LanguageMiddleware(Generic[App]):
         site = self._site.share()
 
         def label(id: str) -> Optional[Label]:
-            return self._found(lambda it: site.lookup(id, it, **self._labels), field)
+            return self._found(lambda it: site.lookup(id, it, **self._rules), field)
 
         first = None if self._message is None else label(self._message)
         language = None if first is None else first.language

@@ -293,10 +293,19 @@ def faults_of_settings():
         ("a language without a catalogue", without_catalogue("xx, pt"), "pt-br"),
         ("the header in a view", header(request).content, b"pt, zh-CN;q=0.5"),
         ("a text that is no header", language(**words)("\u65e5\u672c, pt"), "pt-br"),
+        ("a table of fallbacks", language(**words, SILKWARAM_FALLBACKS="gl=pt-BR")("gl"), "pt-br"),
+        ("without it", language(**words)("gl"), "en"),
     ]
     for what, got, wanted in rows:
         if got != wanted:
             yield f"{what}: {got}, not {wanted}"
+    try:
+        language(SILKWARAM_FALLBACKS="gl=pt, gl=en")("en")
+    except ours.Refused as fault:
+        if (fault.number, fault.offset) != (31, 7):
+            yield f"a table that is none: {fault}"
+    else:
+        yield "a table that is none is taken"
 
 
 TEMPLATE = (
@@ -348,6 +357,8 @@ def faults_of_template(file, held):
     ]
     with override_settings(SILKWARAM_WIDEN=False):
         rows.append((rendered("pt"), english))
+        with override_settings(SILKWARAM_FALLBACKS="pt=pt-BR"):
+            rows.append((rendered("pt"), "Oi||||en Paper|"))
     request = RequestFactory().get("/")
     rows.append((rendered("pt-br", request), "Oi||||en Paper|"))
     with open(file + ".next", "w", encoding="utf-8") as it:
