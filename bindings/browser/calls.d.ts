@@ -32,6 +32,14 @@ export interface FieldOptions {
    * @default false
    */
   lenient?: boolean;
+  /**
+   * What readers are offered, written as an Accept-Language header: the languages that filtering by it takes (RFC 4647
+   * section 3.3.1), and `@none`. `en, fr` offers these and what they begin, `*` all.
+   *
+   * @default of a site all languages but those of private use, as `x-note`, which an empty text stands for too; of tags
+   * all
+   */
+  offer?: Text | null;
 }
 
 export interface LookupOptions extends FieldOptions {
@@ -44,16 +52,12 @@ export interface LookupOptions extends FieldOptions {
    * @default false
    */
   widen?: boolean;
-}
-
-export interface OfferOptions {
   /**
-   * What readers are offered of a site, written as an Accept-Language header: the languages that filtering by it takes
-   * (RFC 4647 section 3.3.1), and labels without a language. `en, fr` offers these and what they begin, `*` all.
+   * Which language is next to which, before its regions: a table as `zh-TW=zh-Hant, no=nb`. The default is not mapped.
    *
-   * @default all languages but those of private use, as `x-note`; null and an empty text stand for it
+   * @default no table: lookup is that of RFC 4647
    */
-  offer?: Text | null;
+  fallbacks?: Text | null;
 }
 
 export interface TextOptions extends LookupOptions {
@@ -174,16 +178,16 @@ export class Refused extends Error {
  */
 export interface Asked {
   /**
-   * The label of a message that a reader gets, or null. Refused: the id (10), the default (1 to 4), the offer and
-   * the field (8, 9).
+   * The label of a message that a reader gets, or null. Refused: the id (10), the default (1 to 4), the offer (8, 9),
+   * the fallbacks (8, 31), the field (8, 9).
    */
-  lookup(id: Text, field: Field, options?: LookupOptions & OfferOptions): Label | null;
+  lookup(id: Text, field: Field, options?: LookupOptions): Label | null;
   /** The text at a place of the label that `lookup` finds, or null. */
-  text(id: Text, field: Field, options?: TextOptions & OfferOptions): string | null;
+  text(id: Text, field: Field, options?: TextOptions): string | null;
   /** The texts of the label that `lookup` finds, or null. */
-  texts(id: Text, field: Field, options?: LookupOptions & OfferOptions): string[] | null;
+  texts(id: Text, field: Field, options?: LookupOptions): string[] | null;
   /** The labels of a message that a reader takes, best first. Refused: the id (10), the offer and the field (8, 9). */
-  filter(id: Text, field: Field, options?: FieldOptions & OfferOptions): Choice[];
+  filter(id: Text, field: Field, options?: FieldOptions): Choice[];
   /** Lets the site go. Closing it again does nothing. */
   close(): void;
   /** Calls `close`. */
@@ -221,10 +225,10 @@ export interface Site extends Asked {
   share(): Site;
 
   /**
-   * All labels of one reader: of each message the one that `lookup` finds. Refused: the default (1 to 4), the offer and
-   * the field (8, 9).
+   * All labels of one reader: of each message the one that `lookup` finds. Refused: the default (1 to 4), the offer
+   * (8, 9), the fallbacks (8, 31), the field (8, 9).
    */
-  bundle(field: Field, options?: LookupOptions & OfferOptions): LanguageMaps;
+  bundle(field: Field, options?: LookupOptions): LanguageMaps;
 
   /**
    * Puts a label of one text. Refused: the id (10), the language (1 to 4), the text (11, or 18 where it is not UTF-8);
@@ -289,11 +293,14 @@ export interface Calls {
   version: number;
   /**
    * The tag that a reader gets, as it is in `tags`, or null (RFC 4647 section 3.4). The default is answered if
-   * nothing else is, it is among the tags and the field does not exclude it. Refused: the default (1 to 4), the field
-   * (8, 9), the tags in their order (1 to 4).
+   * nothing else is, it is among the tags and the field does not exclude it. Refused: the default (1 to 4), the offer
+   * (8, 9), the fallbacks (8, 31), the field (8, 9), the tags in their order (1 to 4).
    */
   pick(field: Field, tags: readonly string[], options?: LookupOptions): string | null;
-  /** All tags that a reader takes, best first (RFC 4647 section 3.3). Refused: the field (8, 9), the tags (1 to 4). */
+  /**
+   * All tags that a reader takes, best first (RFC 4647 section 3.3). Refused: the offer and the field (8, 9), the tags
+   * (1 to 4).
+   */
   filter(field: Field, tags: readonly string[], options?: FieldOptions): Picked[];
   /** What the number of a refusal means, or null. */
   refusal(number: number): string | null;

@@ -10,6 +10,8 @@ const WIDEN = 4;
 const CHECK_OWN = 8;
 const LABELS = 16;
 const SCHEMES = { basic: 0, extended: EXTENDED };
+// Without an offer the tags that a caller lists are all offered.
+const ALL_TAGS = '*';
 
 const FOUND = 0;
 const NOTHING = 1;
@@ -32,7 +34,7 @@ const NUMBERS = { uint32_t: Number, uint64_t: BigInt, size_t: BigInt, sw_site: B
 
 // Bytes of `sw_told`, of `sw_rules` and of a handle, and of the room for the texts and the answer of a call.
 const TOLD = 40;
-const RULES = 16;
+const RULES = 32;
 const HANDLE = 8;
 const ROOM = 32768;
 const LARGEST_MOMENT = 2n ** 64n - 1n;
@@ -123,15 +125,20 @@ function fieldOf(given) {
   return given === undefined || given === null ? '*' : textOf(given, 'field');
 }
 
-function defaultOf(options) {
-  const given = options.default;
-  return given === undefined || given === null ? '' : textOf(given, 'default');
+// An option that is a text, or the text that stands for it.
+function optionOf(options, name, without = '') {
+  const given = options[name];
+  return given === undefined || given === null ? without : textOf(given, name);
 }
 
-// What readers are offered of a site; an empty text is all but languages of private use.
-function offerOf(options) {
-  const given = options.offer;
-  return given === undefined || given === null ? '' : textOf(given, 'offer');
+function defaultOf(options) {
+  return optionOf(options, 'default');
+}
+
+// The texts of the rules of a question, and what is offered without an offer: an empty text is all languages but those
+// of private use.
+function rulesOf(options, without = '') {
+  return [optionOf(options, 'offer', without), optionOf(options, 'fallbacks')];
 }
 
 // A line for each tag. An LF in a tag would make two tags of it: it becomes a zero, which no tag has.
@@ -385,13 +392,15 @@ class Module {
     for (const [kind, it] of CALLS[name].parameters) {
       if (kind === 'room' || kind === 'sw_told') break;
       if (kind === 'sw_rules') {
-        // (rules are given by the text of their offer)
-        const count = this.#put(given[it], at);
+        // (rules are given by their texts)
         const rules = new DataView(this.#exports.memory, this.#room + TOLD, RULES);
-        rules.setBigUint64(0, BigInt(at), true);
-        rules.setBigUint64(8, BigInt(count), true);
+        given[it].forEach((text, place) => {
+          const count = this.#put(text, at);
+          rules.setBigUint64(16 * place, BigInt(at), true);
+          rules.setBigUint64(16 * place + 8, BigInt(count), true);
+          at += count;
+        });
         placed.push(BigInt(rules.byteOffset));
-        at += count;
       } else if (kind !== 'text') {
         placed.push(NUMBERS[kind](given[it]));
       } else if (given[it] instanceof Kept) {
@@ -406,7 +415,7 @@ class Module {
   }
 
   #mostOf(given) {
-    return Object.values(given).filter(isText).reduce((sum, it) => sum + mostBytes(it), 0);
+    return Object.values(given).flat().filter(isText).reduce((sum, it) => sum + mostBytes(it), 0);
   }
 
   // Calls what answers nothing but its status. `given` has what the call takes, by the names of the header.
@@ -504,10 +513,11 @@ function refusedAsName(calls, refused, text) {
   return refused.number === NOT_JSON && mayBeName(text) ? refusalOf(calls, refused, NO_NAME) : refused;
 }
 
-// What a lookup of a site is asked beside the message.
-function lookupOf(field, options) {
+// What a lookup is asked beside the message or the tags.
+function lookupOf(field, options, without) {
   const given = optionsOf(options);
-  return { rules: offerOf(given), flags: lookupFlagsOf(given), field: fieldOf(field), dflt: defaultOf(given) };
+  const rules = rulesOf(given, without);
+  return { rules, flags: lookupFlagsOf(given), field: fieldOf(field), dflt: defaultOf(given) };
 }
 
 // Makes the call that ends with this name, of a site or of a document, and returns the text that it answers, or null.
@@ -530,7 +540,7 @@ class Asked {
 
   filter(id, field, options) {
     const given = optionsOf(options);
-    const lines = this[ask]('filter', { rules: offerOf(given), flags: flagsOf(given), id, field: fieldOf(field) });
+    const lines = this[ask]('filter', { rules: rulesOf(given), flags: flagsOf(given), id, field: fieldOf(field) });
     return lines === null ? [] : linesIn(lines).map(choiceOf);
   }
 
@@ -552,7 +562,7 @@ function writtenSiteClass(calls) {
       forgotten.register(this, this.#kept, this);
       try {
         // (what is no document is refused by any question)
-        this[ask]('filter', { rules: '', flags: 0, id: 'm', field: '*' });
+        this[ask]('filter', { rules: rulesOf({}), flags: 0, id: 'm', field: '*' });
       } catch (refused) {
         this.close();
         throw refusedAsName(calls, refused, text);
@@ -768,13 +778,13 @@ function over(calls) {
   return {
     version: calls.version(),
     pick(field, tags, options) {
-      const given = optionsOf(options);
-      const asked = { flags: lookupFlagsOf(given), field: fieldOf(field), tags: linesOf(tags), dflt: defaultOf(given) };
-      return calls.text('sw_pick', asked);
+      return calls.text('sw_pick', { ...lookupOf(field, options, ALL_TAGS), tags: linesOf(tags) });
     },
     filter(field, tags, options) {
-      const given = { flags: flagsOf(optionsOf(options)), field: fieldOf(field), tags: linesOf(tags) };
-      const lines = calls.text('sw_filter', given);
+      const given = optionsOf(options);
+      const rules = rulesOf(given, ALL_TAGS);
+      const asked = { rules, flags: flagsOf(given), field: fieldOf(field), tags: linesOf(tags) };
+      const lines = calls.text('sw_filter', asked);
       return lines === null ? [] : linesIn(lines).map(pickedOf);
     },
     refusal: (number) => (Number.isInteger(number) && number >>> 0 === number ? calls.meaning(number) : null),

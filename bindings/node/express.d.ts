@@ -22,6 +22,12 @@ export interface LanguagesOptions {
    */
   offer?: string;
   /**
+   * Which language is next to which, as `zh-TW=zh-Hant, no=nb`, among the tags and the labels.
+   *
+   * @default no table
+   */
+  fallbacks?: string;
+  /**
    * Skips malformed elements of a reader's field. Without it such a field counts as none.
    *
    * @default true
@@ -59,8 +65,8 @@ export interface ResponseWithHeaders {
 }
 
 /**
- * Returns middleware of express's form. It is refused where a tag is none (1 to 4), and where the
- * offer is malformed or too long (8, 9).
+ * Returns middleware of express's form. Refused: the default (1 to 4), the offer (8, 9), the
+ * fallbacks (8, 31), the tags (1 to 4).
  */
 export function languages(
   options: LanguagesOptions,

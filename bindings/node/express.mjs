@@ -1,5 +1,5 @@
 // Middleware of express's form.
-import { Site, WrittenSite, filter, pick } from './node.mjs';
+import { Site, WrittenSite, pick } from './node.mjs';
 
 // A refusal of the field: it is too long, or has a malformed element and `lenient` is false.
 const OF_FIELD = [8, 9];
@@ -48,33 +48,31 @@ function check(site, tags, strict) {
   if (tags.includes('@none')) throw new RangeError('@none is no language that a page can be in');
 }
 
-// The tags that readers are offered. Without an offer they are all: the publisher lists them.
-function offeredOf(tags, offer) {
-  return offer ? filter(offer, tags).map(({ tag }) => tag) : [...tags];
-}
-
 /** Returns the middleware (express.d.ts). */
 export function languages({
   site,
   tags,
   default: fallback = tags?.[0],
   offer,
+  fallbacks,
   lenient = true,
   widen = true,
   strict = false,
 }) {
-  const options = { default: fallback, lenient, widen };
+  // (an empty offer is none, as in all middleware)
+  const rules = { default: fallback, widen, offer: offer || undefined, fallbacks };
+  const options = { ...rules, lenient };
   check(site, tags, strict);
-  const offered = offeredOf(tags, offer);
-  const first = pick(undefined, offered, options);
+  const pages = [...tags];
+  const first = pick(undefined, pages, options);
   if (first === null) throw new RangeError('default must be one of the tags that are offered');
   return function readerLanguage(req, res, next) {
-    const found = pickFor(req.headers['accept-language'], offered, options);
+    const found = pickFor(req.headers['accept-language'], pages, options);
     // (a reader who excludes the default too still gets it, as RFC 9110 section 12.5.4 allows)
     const language = found ?? (strict ? null : first);
     req.language = language;
     const asked = siteOf(site);
-    req.label = (id) => labelIn(asked, id, language, { default: fallback, widen, offer });
+    req.label = (id) => labelIn(asked, id, language, rules);
     if (language !== null) res.setHeader('Content-Language', language);
     vary(res);
     next();

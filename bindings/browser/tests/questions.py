@@ -68,8 +68,8 @@ def question(of, asked):
                "lenient": bool(asked.flags & of.LENIENT)}
     if asked.flags & WIDEN:
         options["widen"] = True
-    if asked.offer is not None:
-        options["offer"] = asked.offer
+    rules = {"offer": asked.offer, "fallbacks": asked.fallbacks}
+    options.update({name: it for name, it in rules.items() if it is not None})
     if asked.call == "open":
         return ["open", base64.b64encode(asked.texts[0]).decode()]
     texts = [it.decode() for it in asked.texts]
@@ -94,7 +94,7 @@ def tag_filter(of, lexicat, rng):
     tags = [of.one_of(rng, of.TAGS, of.BAD_TAGS if rng.random() < 0.2 else of.TAGS) for _ in range(rng.randint(1, 8))]
     tags = [it.swapcase() if rng.random() < 0.3 and it != "@none" else it for it in tags]
     options = {"scheme": "extended" if flags & of.EXTENDED else "basic", "lenient": bool(flags & of.LENIENT)}
-    asked = of.Question("pick", flags, (read.encode(), b"", b""), 0, None, None)
+    asked = of.Question("pick", flags, (read.encode(), b"", b""), 0, None, None, None)
     words = ["pick", "--all", *of.options(asked, read.encode(), b""), *[it.encode() for it in tags]]
     status, lines, told = of.run(lexicat, words)
     if status > 1:
@@ -121,7 +121,7 @@ def widened(of, asked):
 def main(words):
     lexicat, count = words
     of = library_questions()
-    asked = widened(of, of.questions(int(count), of.OFFERS))
+    asked = widened(of, of.questions(int(count)))
     with concurrent.futures.ThreadPoolExecutor(os.cpu_count()) as pool:
         opens = [it for it in asked if it.call == "open"]
         opened = dict(zip(opens, pool.map(lambda it: of.wanted(lexicat, it), opens)))

@@ -166,12 +166,21 @@ test('a tag that is not offered is given to no reader', async (t) => {
   assert.deepEqual(await get(await port('*, x;q=0', noted), 'x-note'), answer('en Hello', 'en'));
 });
 
+test('a table of fallbacks is that of tags and labels', async (t) => {
+  const site = Site.open(GREETINGS);
+  const port = await serve(t, respond(languages({ site, tags: TAGS, fallbacks: 'gsw=fr, de=fr' })));
+  assert.deepEqual(await get(port, 'gsw-CH'), answer('fr Bonjour', 'fr'));
+  assert.deepEqual(await get(port, 'de'), answer('fr Bonjour', 'fr'));
+  assert.deepEqual(await get(port, 'de-CH'), answer('de-ch Grüezi', 'de-CH'));
+});
+
 test('arguments that can serve no reader are refused at once', () => {
   const site = Site.open(GREETINGS);
   assert.throws(() => languages({ site, tags: ['en_US'] }), { number: 3 });
   assert.throws(() => languages({ site, tags: ['en'], default: 'fr' }), RangeError);
   assert.throws(() => languages({ site, tags: TAGS, default: 'en', offer: 'fr' }), RangeError);
   assert.throws(() => languages({ site, tags: TAGS, offer: 'en_US' }), { number: 9 });
+  assert.throws(() => languages({ site, tags: TAGS, fallbacks: 'en' }), { number: 31 });
   assert.throws(() => languages({ site, tags: [] }), RangeError);
   assert.throws(() => languages({ site, tags: ['en', '@none'] }), RangeError);
   assert.throws(() => languages({ site, tags: 'en' }), TypeError);

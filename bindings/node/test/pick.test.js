@@ -79,6 +79,8 @@ test('wrong types are TypeErrors that name the argument', () => {
     ['tags\\[1\\]', ['en', ['en', undefined]]],
     ['tags\\[0\\]', ['en', [, 'en']]],
     ['default', ['en', ['en'], { default: 7 }]],
+    ['offer', ['en', ['en'], { offer: ['en'] }]],
+    ['fallbacks', ['en', ['en'], { fallbacks: { no: 'nb' } }]],
     ['lenient', ['en', ['en'], { lenient: 1 }]],
     ['scheme', ['en', ['en'], { scheme: 'toString' }]],
     ['scheme', ['en', ['en'], { scheme: null }]],
@@ -113,6 +115,28 @@ test('a language finds its regions where that is asked for', () => {
   assert.equal(pick('en, en-US;q=0', ['en-US', 'en-GB'], widen), 'en-GB');
   assert.equal(pick('*', ['de'], widen), null);
   assert.throws(() => pick('en', ['en'], { widen: 1 }), { message: 'widen must be a boolean' });
+});
+
+test('a language finds the next one by a table, before its regions', () => {
+  const fallbacks = 'zh-TW=zh-Hant, no=nb, en=en-US';
+  assert.equal(pick('no, da', ['da', 'NB'], { fallbacks }), 'NB');
+  assert.equal(pick('en', ['en-AU', 'en-US'], { fallbacks: Buffer.from(fallbacks), widen: true }), 'en-US');
+  assert.equal(pick('ja', ['nb'], { fallbacks, default: 'no' }), null);
+  const refused = { number: 31, code: 'fallback-malformed', offset: 7 };
+  assert.throws(() => pick('e n', ['en'], { fallbacks: 'en=fr, EN=de' }), refused);
+  assert.throws(() => pick('e n', ['en'], { fallbacks: ','.repeat(65_536) }), { number: 8, offset: null });
+});
+
+test('only tags that are offered are picked or filtered', () => {
+  const tags = ['en', 'fr', 'x-a'];
+  assert.equal(pick('fr, en', tags, { offer: '*, fr;q=0' }), 'en');
+  assert.equal(pick('ja', tags, { offer: 'fr', default: 'en' }), null);
+  assert.equal(pick('x-a', tags, { offer: null }), 'x-a');
+  assert.equal(pick('x-a', tags, { offer: '' }), null);
+  assert.deepEqual(filter('*', tags, { offer: 'x, fr' }).map((it) => it.tag), ['fr', 'x-a']);
+  for (const ask of [pick, filter]) {
+    assert.throws(() => ask('en', ['e_n'], { offer: 'fr, e n' }), { number: 9, offset: 4 });
+  }
 });
 
 test('all tags that fit, best first', () => {

@@ -1,6 +1,6 @@
 import assert from 'node:assert/strict';
 import test from 'node:test';
-import { Site } from 'silkwaram';
+import { Site, WrittenSite } from 'silkwaram';
 import { CLOSED, GREETINGS, siteDocument, throwEach, wrongType } from './documents.js';
 
 function opened(labels) {
@@ -20,6 +20,19 @@ test('what readers are offered', () => {
   const site = opened({ m: { 'x-note': ['ask Anna'] } });
   const asked = ['*', 'en', '*', ''].map((offer) => site.text('m', 'x-note', { offer }));
   assert.deepEqual(asked, ['ask Anna', null, 'ask Anna', null]);
+});
+
+test('a table of fallbacks', () => {
+  const site = Site.open(GREETINGS);
+  for (const asked of [site, new WrittenSite(GREETINGS)]) {
+    assert.equal(asked.text('greeting', 'gsw-CH', { fallbacks: 'gsw=fr' }), 'Bonjour');
+    assert.throws(() => asked.lookup('greeting', 'e n', { fallbacks: 'gsw' }), { number: 31, offset: 0 });
+  }
+  const french = { greeting: { fr: ['Bonjour', 'Salut'] }, farewell: { en: 'Bye' } };
+  assert.deepEqual(site.bundle('gsw', { fallbacks: 'gsw=fr, fr=en', offer: 'fr, en' }), french);
+  // (more than the room that is kept for a call)
+  const long = `${' '.repeat(40_000)}, gsw=fr`;
+  assert.equal(site.text('greeting', 'gsw', { fallbacks: long, offer: `${' '.repeat(40_000)}fr` }), 'Bonjour');
 });
 
 test('texts around the size of the first room for them', () => {

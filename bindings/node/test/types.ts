@@ -24,8 +24,10 @@ const choices: Choice[] = site.filter('greeting', 'fr', { offer: null });
 const bundle: LanguageMaps = site.bundle('fr', { default: 'en', offer: 'en, fr' });
 // @ts-expect-error
 site.text('greeting', 'fr', { offer: ['fr'] });
+pick('fr', ['en'], { offer: 'fr', fallbacks: 'no=nb' });
+filter('fr', ['en'], { offer: 'fr' });
 // @ts-expect-error
-pick('fr', ['en'], { offer: 'fr' });
+filter('fr', ['en'], { fallbacks: 'no=nb' });
 // @ts-expect-error
 site.filter('greeting', 'fr', { default: 'en' });
 // @ts-expect-error
@@ -73,7 +75,7 @@ const use = languages({ site, tags: ['en'] });
 const req: Parameters<typeof use>[0] = { headers: {} };
 use(req, { getHeader: () => undefined, setHeader: () => 0 }, () => {});
 const language: string | null | undefined = req.language;
-languages({ site: () => written, tags: ['en'], widen: true, strict: true });
+languages({ site: () => written, tags: ['en'], fallbacks: 'no=nb', widen: true, strict: true });
 // @ts-expect-error
 languages({ site: () => null, tags: ['en'] });
 // @ts-expect-error
