@@ -33,6 +33,9 @@ final class Library
     /** The bytes of room for an answer, before it is known how many it needs. */
     private const FIRST_ROOM = 1024;
 
+    /** How many rules are kept. */
+    private const MOST_RULES = 64;
+
     private const EXTENDED = 1;
     private const LENIENT = 2;
     private const WIDEN = 4;
@@ -53,10 +56,8 @@ final class Library
     private FFI\CData $told;
     private FFI\CData $toldAt;
     private FFI\CData $room;
-    private FFI\CData $rules;
-    /** The offer of the rules, and its bytes where they are. */
-    private string $offer = '';
-    private ?FFI\CData $offered = null;
+    /** Rules by their texts, each with the bytes of these. */
+    private array $rules = [];
 
     /**
      * The library of this process, or of this request.
@@ -80,7 +81,6 @@ final class Library
         $this->told = $calls->new('sw_told');
         $this->toldAt = FFI::addr($this->told);
         $this->room = $calls->new('char[' . self::FIRST_ROOM . ']');
-        $this->rules = $calls->new('sw_rules');
     }
 
     private static function calls(): FFI
@@ -111,18 +111,32 @@ final class Library
             | ($extended ? self::EXTENDED : 0);
     }
 
-    /** The rules of an offer, for the next call: most programs have one offer for all of them. */
-    public function rules(string $offer): FFI\CData
+    /** The rules of an offer and a table of fallbacks, which are kept: most programs have few. */
+    public function rules(string $offer, string $fallbacks = ''): FFI\CData
     {
-        if ($offer !== $this->offer) {
-            $size = strlen($offer);
-            $this->offered = $this->calls->new('char[' . max($size, 1) . ']');
-            FFI::memcpy($this->offered, $offer, $size);
-            $this->rules->offer = $this->calls->cast('char *', FFI::addr($this->offered));
-            $this->rules->offer_len = $size;
-            $this->offer = $offer;
+        $texts = strlen($offer) . " $offer$fallbacks";
+        if (!isset($this->rules[$texts])) {
+            $this->rules = count($this->rules) < self::MOST_RULES ? $this->rules : [];
+            $this->rules[$texts] = $this->made($offer, $fallbacks);
         }
-        return $this->rules;
+        return $this->rules[$texts][0];
+    }
+
+    /**
+     * New rules, with the bytes of their texts.
+     *
+     * @return list<FFI\CData>
+     */
+    private function made(string $offer, string $fallbacks): array
+    {
+        $made = [$rules = $this->calls->new('sw_rules')];
+        foreach (['offer' => $offer, 'fallbacks' => $fallbacks] as $name => $text) {
+            $made[] = $bytes = $this->calls->new('char[' . max(strlen($text), 1) . ']');
+            FFI::memcpy($bytes, $text, strlen($text));
+            $rules->$name = $this->calls->cast('char *', FFI::addr($bytes));
+            $rules->{"{$name}_len"} = strlen($text);
+        }
+        return $made;
     }
 
     /** A handle that is not open. */

@@ -20,8 +20,11 @@ use FFI\CData;
  * `en, fr` offers these and what they begin, `*` all. If it is empty, that is all languages but
  * those of private use, as `x-note`.
  *
- * Refused are the id (10), the default (1 to 4), the offer, and the field: what is malformed (9),
- * or has over 65,535 bytes (8).
+ * `$fallbacks` is which language is next to which, before its regions: a table as
+ * `zh-TW=zh-Hant, no=nb`. The default is not mapped.
+ *
+ * Refused are the id (10), the default (1 to 4), the offer, the fallbacks, and the field: what is
+ * malformed (9, and 31 of the fallbacks), or has over 65,535 bytes (8).
  */
 abstract class Questions
 {
@@ -47,10 +50,12 @@ abstract class Questions
         bool $lenient = false,
         bool $widen = false,
         bool $extended = false,
-        string $offer = ''
+        string $offer = '',
+        string $fallbacks = ''
     ): ?array {
         $flags = Library::asked($lenient, $widen, $extended);
-        $line = $this->find('lookup', $offer, $flags, $id, $field ?? '*', $default);
+        $rules = $this->library->rules($offer, $fallbacks);
+        $line = $this->find('lookup', $rules, $flags, $id, $field ?? '*', $default);
         if ($line === null) {
             return null;
         }
@@ -75,10 +80,11 @@ abstract class Questions
         bool $lenient = false,
         bool $widen = false,
         bool $extended = false,
-        string $offer = ''
+        string $offer = '',
+        string $fallbacks = ''
     ): ?array {
-        $label = $this->lookup($id, $field, $default, $lenient, $widen, $extended, $offer);
-        return $label['texts'] ?? null;
+        $how = [$lenient, $widen, $extended, $offer, $fallbacks];
+        return $this->lookup($id, $field, $default, ...$how)['texts'] ?? null;
     }
 
     /**
@@ -94,10 +100,12 @@ abstract class Questions
         bool $lenient = false,
         bool $widen = false,
         bool $extended = false,
-        string $offer = ''
+        string $offer = '',
+        string $fallbacks = ''
     ): ?string {
         $flags = Library::asked($lenient, $widen, $extended);
-        return $this->find('text', $offer, $flags, $id, $field ?? '*', $default, $place);
+        $rules = $this->library->rules($offer, $fallbacks);
+        return $this->find('text', $rules, $flags, $id, $field ?? '*', $default, $place);
     }
 
     /**
@@ -130,9 +138,8 @@ abstract class Questions
         return $found;
     }
 
-    private function find(string $call, string $offer, string|int ...$given): ?string
+    private function find(string $call, CData $rules, string|int ...$given): ?string
     {
-        $rules = $this->library->rules($offer);
         return $this->library->find(static::CALLS . $call, $this->held, $rules, ...$given);
     }
 }

@@ -24,16 +24,18 @@ final class Reader
      * @param string $default The language for readers who get no other.
      * @param string $offer The languages that readers are offered, written as the header is. If it
      *     is empty, that is all tags, and the labels of all languages but those of private use.
+     * @param string $fallbacks Which language is next to which, as `zh-TW=zh-Hant, no=nb`.
      * @param bool $lenient Skips malformed elements of the header, and reads the rest. Without it
      *     such a header counts as none.
      * @param bool $widen Lets a language find its regions, as `en` finds `en-US`.
      * @param bool $strict Gives no language and no label to readers who exclude the default too.
-     * @throws Refused The default (1 to 4), the offer (8, 9).
+     * @throws Refused The default (1 to 4), the offer (8, 9), the fallbacks (8, 31).
      */
     public function __construct(
         ?string $field,
         private string $default,
         private string $offer = '',
+        private string $fallbacks = '',
         private bool $lenient = true,
         private bool $widen = true,
         private bool $strict = false
@@ -47,8 +49,7 @@ final class Reader
             }
             $this->field = null;
         }
-        Tags::pick(null, [], $default);
-        Tags::filter($offer, []);
+        $this->picked(null, []);
     }
 
     /**
@@ -60,16 +61,7 @@ final class Reader
      */
     public function language(array $tags): ?string
     {
-        if ($this->offer !== '') {
-            $tags = array_column(Tags::filter($this->offer, $tags), 'tag');
-        }
-        return $this->found(fn (?string $field) => Tags::pick(
-            $field,
-            $tags,
-            $this->default,
-            lenient: $this->lenient,
-            widen: $this->widen
-        ));
+        return $this->found(fn (?string $field) => $this->picked($field, $tags));
     }
 
     /**
@@ -87,8 +79,23 @@ final class Reader
             $this->default,
             lenient: $this->lenient,
             widen: $this->widen,
-            offer: $this->offer
+            offer: $this->offer,
+            fallbacks: $this->fallbacks
         ));
+    }
+
+    /** @param string[] $tags */
+    private function picked(?string $field, array $tags): ?string
+    {
+        return Tags::pick(
+            $field,
+            $tags,
+            $this->default,
+            lenient: $this->lenient,
+            widen: $this->widen,
+            offer: $this->offer === '' ? '*' : $this->offer,
+            fallbacks: $this->fallbacks
+        );
     }
 
     /** What is found by the header; if that is nothing, what is found without one. */

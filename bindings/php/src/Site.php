@@ -82,7 +82,8 @@ final class Site extends Questions
      * other readers, pick a tag first, and ask for that tag.
      *
      * @return array<array<string, string|list<string>>> Language maps.
-     * @throws Refused The default (1 to 4), the offer, the field (8, 9).
+     * @throws Refused The default (1 to 4), the offer (8, 9), the fallbacks (8, 31), the field
+     *     (8, 9).
      */
     public function bundle(
         ?string $field,
@@ -90,10 +91,11 @@ final class Site extends Questions
         bool $lenient = false,
         bool $widen = false,
         bool $extended = false,
-        string $offer = ''
+        string $offer = '',
+        string $fallbacks = ''
     ): array {
         $flags = Library::asked($lenient, $widen, $extended);
-        $rules = $this->library->rules($offer);
+        $rules = $this->library->rules($offer, $fallbacks);
         return $this->maps('bundle', $rules, $flags, $field ?? '*', $default);
     }
 

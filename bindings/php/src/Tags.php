@@ -19,9 +19,14 @@ final class Tags
      * @param bool $widen Lets a language find its regions, as `en` finds `en-US`. RFC 4647 does
      *     not.
      * @param bool $extended The field is a list of extended ranges without weights.
+     * @param string $offer Which of the tags readers are offered, written as the field is. An empty
+     *     one is all but those of private use.
+     * @param string $fallbacks Which language is next to which, before its regions: a table as
+     *     `zh-TW=zh-Hant, no=nb`. The default is not mapped.
      * @return string|null The tag as it is in `$tags`, or null if there is none.
-     * @throws Refused The default (1 to 4); the field, if it is malformed (9) or has over 65,535
-     *     bytes (8); the tags in their order (1 to 4).
+     * @throws Refused The default (1 to 4); the offer, the fallbacks and the field, if they are
+     *     malformed (9, and 31 of the fallbacks) or have over 65,535 bytes (8); the tags in their
+     *     order (1 to 4).
      */
     public static function pick(
         ?string $field,
@@ -29,11 +34,15 @@ final class Tags
         string $default = '',
         bool $lenient = false,
         bool $widen = false,
-        bool $extended = false
+        bool $extended = false,
+        string $offer = '*',
+        string $fallbacks = ''
     ): ?string {
+        $library = Library::loaded();
+        $rules = $library->rules($offer, $fallbacks);
         $flags = Library::asked($lenient, $widen, $extended);
         $lines = self::lines($tags);
-        return Library::loaded()->find('sw_pick', $flags, $field ?? '*', $lines, $default);
+        return $library->find('sw_pick', $flags, $rules, $field ?? '*', $lines, $default);
     }
 
     /**
@@ -43,16 +52,19 @@ final class Tags
      * @param string[] $tags
      * @return list<array{tag: string, weight: int}> Each tag as it is in `$tags`, with its weight
      *     in thousandths. A tag that is there twice is answered twice.
-     * @throws Refused The field (8, 9), the tags in their order (1 to 4).
+     * @throws Refused The offer, then the field (each 8, 9), the tags in their order (1 to 4).
      */
     public static function filter(
         ?string $field,
         array $tags,
         bool $lenient = false,
-        bool $extended = false
+        bool $extended = false,
+        string $offer = '*'
     ): array {
+        $library = Library::loaded();
         $flags = Library::asked($lenient, false, $extended);
-        $lines = Library::loaded()->ask('sw_filter', $flags, $field ?? '*', self::lines($tags));
+        $given = [$flags, $library->rules($offer), $field ?? '*', self::lines($tags)];
+        $lines = $library->ask('sw_filter', ...$given);
         $found = [];
         foreach (array_slice(explode("\n", $lines), 1, -1) as $line) {
             $end = strrpos($line, ' ');

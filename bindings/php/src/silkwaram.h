@@ -4,13 +4,16 @@
 typedef struct sw_told { size_t len; size_t offset; size_t row; size_t count; uint32_t number;
     uint32_t given; } sw_told;
 typedef struct sw_site { void *held; } sw_site;
-typedef struct sw_rules { const char *offer; size_t offer_len; } sw_rules;
+typedef struct sw_rules { const char *offer; size_t offer_len; const char *fallbacks;
+    size_t fallbacks_len; } sw_rules;
 uint32_t sw_version(void);
-int32_t sw_pick(uint32_t flags, const char *field, size_t field_len, const char *tags,
-    size_t tags_len, const char *dflt, size_t dflt_len, char *out, size_t out_len, sw_told *told);
-int32_t sw_site_open(const char *text, size_t text_len, sw_site *site, sw_told *told);
-int32_t sw_rules_new(const char *offer, size_t offer_len, sw_rules *rules, sw_told *told);
+int32_t sw_rules_new(const char *offer, size_t offer_len, const char *fallbacks,
+    size_t fallbacks_len, sw_rules *rules, sw_told *told);
 void sw_rules_free(sw_rules *rules);
+int32_t sw_pick(uint32_t flags, const sw_rules *rules, const char *field, size_t field_len,
+    const char *tags, size_t tags_len, const char *dflt, size_t dflt_len, char *out, size_t out_len,
+    sw_told *told);
+int32_t sw_site_open(const char *text, size_t text_len, sw_site *site, sw_told *told);
 int32_t sw_site_lookup(sw_site *site, const sw_rules *rules, uint32_t flags, const char *id,
     size_t id_len, const char *field, size_t field_len, const char *dflt, size_t dflt_len,
     char *out, size_t out_len, sw_told *told);
@@ -55,8 +58,8 @@ int32_t sw_site_missing(sw_site *site, const char *lang, size_t lang_len, char *
 int32_t sw_site_outdated(sw_site *site, const char *lang, size_t lang_len, const char *source,
     size_t source_len, char *out, size_t out_len, sw_told *told);
 int32_t sw_site_changes(sw_site *site, sw_site *other, char *out, size_t out_len, sw_told *told);
-int32_t sw_filter(uint32_t flags, const char *field, size_t field_len, const char *tags,
-    size_t tags_len, char *out, size_t out_len, sw_told *told);
+int32_t sw_filter(uint32_t flags, const sw_rules *rules, const char *field, size_t field_len,
+    const char *tags, size_t tags_len, char *out, size_t out_len, sw_told *told);
 int32_t sw_refusal(uint32_t number, char *out, size_t out_len, sw_told *told);
 int32_t sw_refusal_code(uint32_t number, char *out, size_t out_len, sw_told *told);
 int32_t sw_refusal_text(uint32_t number, char *out, size_t out_len, sw_told *told);

@@ -61,11 +61,8 @@ function named(array $options, string $call): array
     if (isset($options['place'])) {
         $named['place'] = (int) min($options['place'], PHP_INT_MAX);
     }
-    if (isset($options['offer'])) {
-        $named['offer'] = $options['offer'];
-    }
     $is_filter = in_array($call, ['filter', 'filterTags'], true);
-    $others = $is_filter ? [] : ['default' => 0, 'widen' => 0];
+    $others = ['offer' => 0] + ($is_filter ? [] : ['default' => 0, 'widen' => 0, 'fallbacks' => 0]);
     return $named + array_intersect_key($options, $others);
 }
 

@@ -4,7 +4,7 @@
 
 declare(strict_types=1);
 
-use Silkwaram\{Library, Refused, Site, Tags};
+use Silkwaram\{Library, Reader, Refused, Site, Tags};
 
 require __DIR__ . '/../autoload.php';
 
@@ -42,6 +42,8 @@ refused(
     fn () => $paris->take($tokyo->deltaFor($paris->summary()), 8),
     fn () => $paris->update([], ['m' => ['en' => array_fill(0, 65, 'x')]], 9),
     fn () => Tags::pick('fr, e n', ['en']),
+    fn () => Tags::pick('e n', ['e n'], fallbacks: 'en=fr, EN=de'),
+    fn () => new Reader('en', 'en', offer: 'e n', fallbacks: 'en'),
     fn () => $paris->merge($tokyo, 8),
     fn () => $share->take($paris->deltaFor($share->summary()), checkOwn: true),
     fn () => $share->merge($paris, checkOwn: true)
@@ -57,6 +59,13 @@ $lima->put('m', 'es', 'Hola', 2 ** 40);
 line($lima->status());
 $lima->put('m', 'x-note', 'ask Anna', 2 ** 40);
 line(array_map(fn ($offer) => $lima->text('m', 'x-note', offer: $offer), ['*', 'es', '*', '']));
+$table = 'no=nb, gl=es';
+line([$lima->text('m', 'gl', fallbacks: $table), $lima->bundle('gl', fallbacks: $table),
+    Tags::pick('no, da', ['da', 'NB'], fallbacks: $table),
+    (new Reader('no', 'en', fallbacks: $table))->language(['en', 'nb'])]);
+line([Tags::pick('fr, en', ['en', 'fr'], offer: '*, fr;q=0'),
+    (new Reader('fr', 'en', offer: 'en'))->language(['en', 'fr']),
+    array_map(fn ($it) => count(Tags::filter('*', ['en', 'x-a'], offer: $it)), ['*', '', 'x', 'fr'])]);
 line([Tags::pick('en', ['en-US'], widen: true), Tags::pick(null, ['en', 'fr'], 'fr'),
     Tags::filter('da, en;q=0.5', ['en', 'da', 'en-GB']), Tags::pick('*', [], 'en')]);
 line([$paris->text('m', 'ja'), $paris->filter('m', 'en;q=0.5'), $paris->bundle('ja')]);
