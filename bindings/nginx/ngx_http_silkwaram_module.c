@@ -50,6 +50,7 @@ typedef struct {
     ngx_str_t                       offered; /* those of tags that offer has */
     ngx_str_t                       labels;  /* the text of a document */
     ngx_str_t                       offer;   /* as a field has it */
+    ngx_str_t                       fallbacks;
     ngx_str_t                       dflt;
     ngx_http_silkwaram_dflt_t      *dflt_directive;
     ngx_flag_t                      lenient;
@@ -214,11 +215,29 @@ ngx_http_silkwaram_flags(ngx_http_silkwaram_loc_conf_t *conf)
 }
 
 
+/* (the directives have read both texts) */
+
+static void
+ngx_http_silkwaram_rules(ngx_http_silkwaram_loc_conf_t *conf,
+    ngx_str_t *offer, sw_rules *rules)
+{
+    rules->offer = offer->data;
+    rules->offer_len = offer->len;
+    rules->fallbacks = conf->fallbacks.data;
+    rules->fallbacks_len = conf->fallbacks.len;
+}
+
+
 static int32_t
 ngx_http_silkwaram_pick(ngx_http_silkwaram_loc_conf_t *conf, ngx_str_t *field,
     u_char *lang, sw_told *told)
 {
-    return sw_pick(ngx_http_silkwaram_flags(conf), field->data, field->len,
+    sw_rules  rules;
+
+    ngx_http_silkwaram_rules(conf, &ngx_http_silkwaram_any, &rules);
+
+    return sw_pick(ngx_http_silkwaram_flags(conf), &rules,
+                   field->data, field->len,
                    conf->offered.data, conf->offered.len,
                    conf->dflt.data, conf->dflt.len,
                    lang, NGX_HTTP_SILKWARAM_TAG_LEN, told);
@@ -414,10 +433,7 @@ ngx_http_silkwaram_text(ngx_http_silkwaram_loc_conf_t *conf,
 
     dflt = ngx_http_silkwaram_label_default(conf, label);
 
-    /* (the directive has read the offer) */
-
-    rules.offer = conf->offer.data;
-    rules.offer_len = conf->offer.len;
+    ngx_http_silkwaram_rules(conf, &conf->offer, &rules);
 
     return sw_text_text(conf->labels.data, conf->labels.len, &rules,
                         ngx_http_silkwaram_flags(conf),
@@ -617,6 +633,7 @@ ngx_http_silkwaram_create_loc_conf(ngx_conf_t *cf)
      *     conf->offered = { 0, NULL };
      *     conf->labels = { 0, NULL };
      *     conf->offer = { 0, NULL };
+     *     conf->fallbacks = { 0, NULL };
      *     conf->dflt = { 0, NULL };
      *     conf->dflt_directive = NULL;
      *     conf->checked = 0;
@@ -639,8 +656,9 @@ static ngx_int_t
 ngx_http_silkwaram_offer_tags(ngx_conf_t *cf,
     ngx_http_silkwaram_loc_conf_t *conf)
 {
-    u_char   *end, *last, *p, *to;
-    sw_told   told;
+    u_char    *end, *last, *p, *to;
+    sw_told    told;
+    sw_rules   rules;
 
     if (conf->tags.len == 0 || conf->offer.len == 0) {
         conf->offered = conf->tags;
@@ -652,6 +670,8 @@ ngx_http_silkwaram_offer_tags(ngx_conf_t *cf,
         return NGX_ERROR;
     }
 
+    ngx_http_silkwaram_rules(conf, &conf->offer, &rules);
+
     conf->offered.data = to;
     last = conf->tags.data + conf->tags.len;
 
@@ -660,8 +680,10 @@ ngx_http_silkwaram_offer_tags(ngx_conf_t *cf,
     for (p = conf->tags.data; p < last; p = end) {
         end = ngx_strlchr(p, last, '\n') + 1;
 
-        if (sw_filter(0, conf->offer.data, conf->offer.len, p, end - p,
-                      NULL, 0, &told)
+        /* (a default is found if it is offered) */
+
+        if (sw_pick(0, &rules, NULL, 0, p, end - p, p, end - p - 1,
+                    NULL, 0, &told)
             == SW_FOUND)
         {
             to = ngx_cpymem(to, p, end - p);
@@ -726,6 +748,7 @@ ngx_http_silkwaram_merge_loc_conf(ngx_conf_t *cf, void *parent, void *child)
     ngx_conf_merge_str_value(conf->tags, prev->tags, "");
     ngx_conf_merge_str_value(conf->labels, prev->labels, "");
     ngx_conf_merge_str_value(conf->offer, prev->offer, "");
+    ngx_conf_merge_str_value(conf->fallbacks, prev->fallbacks, "");
     ngx_conf_merge_str_value(conf->dflt, prev->dflt, "");
     ngx_conf_merge_value(conf->lenient, prev->lenient, 1);
     ngx_conf_merge_value(conf->strict, prev->strict, 0);
@@ -848,15 +871,15 @@ ngx_http_silkwaram_check_tag(ngx_conf_t *cf, ngx_command_t *cmd,
 
         /* as a tag, since an empty default is none */
 
-        status = sw_pick(0, NULL, 0, (u_char *) "\n", 1, NULL, 0, NULL, 0,
-                         &told);
+        status = sw_pick(0, NULL, NULL, 0, (u_char *) "\n", 1, NULL, 0,
+                         NULL, 0, &told);
 
     } else {
 
         /* as a default, since among tags an LF would make two of one */
 
-        status = sw_pick(0, NULL, 0, NULL, 0, tag->data, tag->len, NULL, 0,
-                         &told);
+        status = sw_pick(0, NULL, NULL, 0, NULL, 0, tag->data, tag->len,
+                         NULL, 0, &told);
     }
 
     if (status == SW_NOTHING) {
@@ -1166,32 +1189,41 @@ ngx_http_silkwaram_labels(ngx_conf_t *cf, ngx_command_t *cmd, void *conf)
 }
 
 
-/* an empty one is none, where another would be inherited */
+/* the offer or the fallbacks; an empty one is none, in place of one above */
 
 static char *
-ngx_http_silkwaram_offer(ngx_conf_t *cf, ngx_command_t *cmd, void *conf)
+ngx_http_silkwaram_rule(ngx_conf_t *cf, ngx_command_t *cmd, void *conf)
 {
     ngx_http_silkwaram_loc_conf_t *slcf = conf;
 
+    int32_t     status;
     sw_told     told;
-    ngx_str_t  *value;
+    sw_rules    rules;
+    ngx_str_t  *rule, *value;
 
-    if (slcf->offer.data != NULL) {
+    rule = (ngx_str_t *) ((u_char *) conf + cmd->offset);
+
+    if (rule->data != NULL) {
         return "is duplicate";
     }
 
     value = cf->args->elts;
 
-    /* no tags, so that the offer alone may be refused */
+    if (rule == &slcf->offer) {
+        status = sw_rules_new(value[1].data, value[1].len, NULL, 0, &rules,
+                              &told);
 
-    if (sw_filter(0, value[1].data, value[1].len, NULL, 0, NULL, 0, &told)
-        != SW_NOTHING)
-    {
+    } else {
+        status = sw_rules_new(NULL, 0, value[1].data, value[1].len, &rules,
+                              &told);
+    }
+
+    if (status != SW_FOUND) {
         ngx_http_silkwaram_log_refusal(cf, cmd, &told, &value[1]);
         return NGX_CONF_ERROR;
     }
 
-    slcf->offer = value[1];
+    *rule = value[1];
 
     return NGX_CONF_OK;
 }
@@ -1312,9 +1344,16 @@ static ngx_command_t  ngx_http_silkwaram_commands[] = {
 
     { ngx_string("silkwaram_offer"),
       NGX_HTTP_MAIN_CONF|NGX_HTTP_SRV_CONF|NGX_HTTP_LOC_CONF|NGX_CONF_TAKE1,
-      ngx_http_silkwaram_offer,
+      ngx_http_silkwaram_rule,
       NGX_HTTP_LOC_CONF_OFFSET,
-      0,
+      offsetof(ngx_http_silkwaram_loc_conf_t, offer),
+      NULL },
+
+    { ngx_string("silkwaram_fallbacks"),
+      NGX_HTTP_MAIN_CONF|NGX_HTTP_SRV_CONF|NGX_HTTP_LOC_CONF|NGX_CONF_TAKE1,
+      ngx_http_silkwaram_rule,
+      NGX_HTTP_LOC_CONF_OFFSET,
+      offsetof(ngx_http_silkwaram_loc_conf_t, fallbacks),
       NULL },
 
     { ngx_string("silkwaram_strict"),

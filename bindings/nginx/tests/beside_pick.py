@@ -2,7 +2,7 @@
 """Compares what nginx answers with what `lexicat pick` answers for the same fields.
 
 usage: beside_pick.py LEXICAT SERVER REQUESTS FOLDER
-           asks SERVER/strict, /lenient, /wide, /always and /usual, by curl, with files in FOLDER
+           asks SERVER/strict and the other LOCATIONS, by curl, with files in FOLDER
        beside_pick.py --print COUNT SERVER
            prints COUNT requests to each of them, as a configuration for curl
 
@@ -15,6 +15,7 @@ import sys
 
 TAGS = ["en", "fr", "de-CH", "zh-Hant"]
 DEFAULT = "en"
+TABLE = "de=fr, ja=nb, nb=de-CH, zh=zh-Hant"
 # The locations, with the options by which the command answers the same.
 LOCATIONS = {
     "strict": [],
@@ -22,9 +23,10 @@ LOCATIONS = {
     "wide": ["--widen"],
     "always": [],
     "usual": ["--lenient", "--widen"],
+    "next": ["--lenient", "--widen", "--fallbacks", TABLE],
 }
 # Those that ask again without the field where nothing is found.
-NOT_STRICT = ["always", "usual"]
+NOT_STRICT = ["always", "usual", "next"]
 FIELDS = 200
 SEED = os.environ["SEED"]
 # Fields that each of the answers is found by.

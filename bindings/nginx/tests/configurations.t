@@ -51,6 +51,12 @@ bad_configurations() {
         'silkwaram_offer "en, e n";'
     refuses '"silkwaram_offer" directive is duplicate in' 'silkwaram_offer en;' \
         'silkwaram_offer fr;'
+    refuses '"silkwaram_fallbacks": refused 31: fallback at 7: "en=fr, EN=de" in' \
+        'silkwaram_fallbacks "en=fr, EN=de";'
+    refuses '"silkwaram_fallbacks": refused 31: fallback at 0: "no" in' \
+        'server { location / { silkwaram_fallbacks no; } }'
+    refuses '"silkwaram_fallbacks" directive is duplicate in' 'silkwaram_fallbacks no=nb;' \
+        'silkwaram_fallbacks "";'
     refuses '"silkwaram_default" directive is duplicate in' 'silkwaram_default en;' \
         'silkwaram_default fr;'
     refuses 'invalid number of arguments in "silkwaram_default" directive' \

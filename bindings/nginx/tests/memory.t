@@ -48,6 +48,7 @@ server {
     location /wide { silkwaram_lenient off; return 200 "\$silkwaram_lang\\n"; }
     location /always { silkwaram_widen off; return 200 "\$silkwaram_lang\\n"; }
     location /usual { silkwaram_offer fr; return 200 "\$silkwaram_lang\\n"; }
+    location /next { silkwaram_fallbacks "de=fr, nb=de-CH"; return 200 "\$silkwaram_lang\\n"; }
     location /labels/ { silkwaram_labels hostile.json; return 200 "\$hostile\$hostile\\n"; }
 }
 END
@@ -61,7 +62,7 @@ END
     field_file 'ja' 5000 '' one
     field_file '' 6000 'fr' two
     field_file 'it' 5000 '' three
-    python3 "$own/beside_pick.py" --print 102 "http://127.0.0.1:$port" > "$room/questions"
+    python3 "$own/beside_pick.py" --print 85 "http://127.0.0.1:$port" > "$room/questions"
     for n in 1 2; do curl -sS -K "$room/questions" > "$room/body" || return 1; done
     [ "$(wc -l < "$room/body")" -eq 510 ] || return 1
     asked=0

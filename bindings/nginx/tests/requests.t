@@ -140,6 +140,24 @@ offers() {
     gets fr /offered-no-default 'en, fr;q=0.5'
 }
 
+# A language finds the next one by the table of its location, before its regions.
+fallbacks() {
+    local where
+    for where in /next /next/in; do
+        gets fr "$where" 'de'
+        gets fr "$where" 'de-AT, en;q=0.5'
+        gets de-CH "$where" 'ja, en;q=0.5'
+        gets de-CH "$where" 'de-CH'
+        gets zh-Hant "$where" 'zh-TW, en;q=0.5'
+        gets en "$where" 'da'
+    done
+    gets de-CH /next/none 'de'
+    gets en /next/none 'ja'
+    gets fr /next/offered 'de'
+    gets fr /next/offered 'ja, zh, fr;q=0.5'
+    gets de-CH /usual 'de'
+}
+
 # The offer of `http` is that of its servers and locations, those of the same tags and of others.
 offers_of_http() {
     configured "$room/offered.conf" << 'END'
@@ -276,6 +294,7 @@ check 'the server starts' started "$room/first.conf"
 [ "$failed" -eq 0 ] || end
 check 'rows' tallied rows
 check 'rows of what is offered' tallied offers
+check 'rows of fallbacks' tallied fallbacks
 check 'the header Content-Language' has_header
 check 'many and long header lines' tallied limits
 check 'fields that come again' tallied kept
