@@ -1,12 +1,12 @@
 /* Answers the questions of standard input by the library, a line each: the name of a call, its flags, three texts as
- * digits base 16 ("-" where one has no bytes), a place, and the offer as a text. It prints the
- * status, the fields of `told`, and the answer.
+ * digits base 16 ("-" where one has no bytes), a place, and two more for the offer and the table of fallbacks. It
+ * prints the status, the fields of `told`, and the answer.
  *
  * Each is asked with no room, with room that is too small by one byte, and with just the room that is needed. All three
  * have to tell the same, and the first two must leave the buffer alone. */
 #include "questions.h"
 
-enum { WORDS = 8 };
+enum { WORDS = 9 };
 
 static sw_site site;
 
@@ -25,24 +25,27 @@ static int32_t ask(char **words, uint8_t *out, size_t room, sw_told *told) {
   const char *call = words[0];
   uint32_t flags = (uint32_t)strtoul(words[1], NULL, 10);
   size_t place = strtoul(words[5], NULL, 10);
-  text one = text_of(words[2]), two = text_of(words[3]), three = text_of(words[4]), offer = text_of(words[6]);
+  text one = text_of(words[2]), two = text_of(words[3]), three = text_of(words[4]);
+  text offer = text_of(words[6]), table = text_of(words[7]);
+  const sw_rules *rules = RULES(offer, table);
   int32_t status = -1;
   if (!strcmp(call, "open"))
     status = sw_site_open(BYTES(one), &site, told);
   else if (!strcmp(call, "pick"))
-    status = sw_pick(flags, BYTES(one), BYTES(two), BYTES(three), out, room, told);
+    status = sw_pick(flags, rules, BYTES(one), BYTES(two), BYTES(three), out, room, told);
   else if (!strcmp(call, "lookup"))
-    status = sw_site_lookup(&site, RULES(offer), flags, BYTES(one), BYTES(two), BYTES(three), out, room, told);
+    status = sw_site_lookup(&site, rules, flags, BYTES(one), BYTES(two), BYTES(three), out, room, told);
   else if (!strcmp(call, "text"))
-    status = sw_site_text(&site, RULES(offer), flags, BYTES(one), BYTES(two), BYTES(three), place, out, room, told);
+    status = sw_site_text(&site, rules, flags, BYTES(one), BYTES(two), BYTES(three), place, out, room, told);
   else if (!strcmp(call, "filter"))
-    status = sw_site_filter(&site, RULES(offer), flags, BYTES(one), BYTES(two), out, room, told);
+    status = sw_site_filter(&site, rules, flags, BYTES(one), BYTES(two), out, room, told);
   else if (!strcmp(call, "bundle"))
-    status = sw_site_bundle(&site, RULES(offer), flags, BYTES(one), BYTES(two), out, room, told);
+    status = sw_site_bundle(&site, rules, flags, BYTES(one), BYTES(two), out, room, told);
   free(one.bytes);
   free(two.bytes);
   free(three.bytes);
   free(offer.bytes);
+  free(table.bytes);
   return status;
 }
 
@@ -80,7 +83,7 @@ int main(void) {
   char *line = NULL;
   size_t room = 0;
   while (getline(&line, &room, stdin) > 0) {
-    char *words[WORDS] = {"", "0", "-", "-", "-", "0", "-", NULL}, *rest = line;
+    char *words[WORDS] = {"", "0", "-", "-", "-", "0", "-", "-", NULL}, *rest = line;
     for (int at = 0; at < WORDS - 1; at++) {
       char *word = strtok_r(rest, " \n", &rest);
       if (word) words[at] = word;

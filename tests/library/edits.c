@@ -15,6 +15,8 @@ static const wanted done = {SW_FOUND, {0}, ""}, usage = {SW_USAGE, {0}, ""};
 
 /* A call that has no buffer, and what it has to answer. */
 #define DONE(call, ...) ROW(0, call, __VA_ARGS__)
+#define FILTER(flags, rules, field, tags, ...) \
+  ROW(ROOM, sw_filter(flags, rules, BYTES(field), BYTES(tags), out, ROOM, &told), __VA_ARGS__)
 /* The labels of a site, as language maps. */
 #define HAS(site, maps) ROW(ROOM, sw_site_export(site, out, ROOM, &told), answers(SW_FOUND, 0, maps))
 
@@ -250,11 +252,18 @@ static void closed_handles(void) {
 
 static void without_a_site(void) {
   text en = T("en"), tags = T("EN\nde"), sentence = T("a site name has 1 to 16 bytes of a to z, 0 to 9 and -");
-  ROW(ROOM, sw_filter(0, BYTES(en), BYTES(tags), out, ROOM, &told), answers(SW_FOUND, 0, "filter 1\nEN 1000\n"));
-  ROW(ROOM, sw_filter(0, BYTES(T("ja")), BYTES(tags), out, ROOM, &told), answers(SW_NOTHING, 0, "filter 0\n"));
-  ROW(ROOM, sw_filter(0, BYTES(T("fr, e n")), BYTES(T("e n")), out, ROOM, &told), refused_at(9, 4));
-  ROW(ROOM, sw_filter(0, BYTES(en), BYTES(T("en\n\n")), out, ROOM, &told), refused(1));
-  ROW(ROOM, sw_filter(SW_WIDEN, BYTES(en), BYTES(tags), out, ROOM, &told), usage);
+  wanted one = answers(SW_FOUND, 0, "filter 1\nEN 1000\n"), nothing = answers(SW_NOTHING, 0, "filter 0\n");
+  FILTER(0, NULL, en, tags, one);
+  FILTER(0, NULL, T("ja"), tags, nothing);
+  FILTER(0, NULL, T("fr, e n"), T("e n"), refused_at(9, 4));
+  FILTER(0, NULL, en, T("en\n\n"), refused(1));
+  FILTER(SW_WIDEN, NULL, en, tags, usage);
+  FILTER(0, OFFERS(T("*, de;q=0")), T("*"), tags, one);
+  FILTER(0, OFFERS(T("fr")), T("*"), tags, nothing);
+  FILTER(0, OFFERS(NO_TEXT), T("*"), T("EN\nx-a"), one);
+  FILTER(0, NULL, T("x-a"), T("EN\nx-a"), answers(SW_FOUND, 0, "filter 1\nx-a 1000\n"));
+  FILTER(0, OFFERS(T("fr, e n")), T("e n"), T("e n"), refused_at(9, 4));
+  FILTER(0, OFFERS(T("fr")), en, T("de\ne n"), refused_at(3, 0));
   ROW(ROOM, sw_refusal(27, out, ROOM, &told), answers(SW_FOUND, 0, (const char *)sentence.bytes));
   ROW(sentence.len - 1, sw_refusal(27, out, sentence.len - 1, &told),
       answers(SW_FOUND, 0, (const char *)sentence.bytes));
@@ -263,7 +272,7 @@ static void without_a_site(void) {
   ROW(ROOM, sw_refusal_text(3, out, ROOM, &told), answers(SW_FOUND, 0, "subtag at OFFSET"));
   ROW(15, sw_refusal_text(3, out, 15, &told), answers(SW_FOUND, 0, "subtag at OFFSET"));
   ROW(ROOM, sw_refusal_text(12, out, ROOM, &told), answers(SW_FOUND, 0, "label has COUNT texts"));
-  static const uint32_t none[] = {0, 31, 256 + 3, UINT32_MAX};
+  static const uint32_t none[] = {0, 32, 256 + 3, UINT32_MAX};
   for (size_t it = 0; it < sizeof none / sizeof *none; it++) {
     ROW(ROOM, sw_refusal(none[it], out, ROOM, &told), nothing_told(SW_NOTHING));
     ROW(ROOM, sw_refusal_code(none[it], out, ROOM, &told), nothing_told(SW_NOTHING));

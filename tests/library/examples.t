@@ -22,11 +22,17 @@ ends_with() { # status, what is printed on standard error, then the words of the
         printf '%s' "$line" | diff - "$room/refusal"
 }
 
+has_next_label() {
+    "$room/label" "$room/site.json" greeting 'gsw, en;q=0.5' en gsw=fr | grep -x Bonjour
+}
+
 of_subtag='each subtag is 1 to 8 letters or digits, with a hyphen between two'
+of_table='a table of fallbacks has elements TAG=TAG between commas, each left tag once'
 of_json='one JSON text (RFC 8259) of at most 127 levels, without a number too large for a float'
 refuses_in_words() {
     ends_with 1 '' "$room/site.json" greeting xx &&
         ends_with 3 "refused 3 at byte 0: $of_subtag"$'\n' "$room/site.json" greeting fr en_US &&
+        ends_with 3 "refused 31 at byte 0: $of_table"$'\n' "$room/site.json" greeting fr en no &&
         ends_with 3 "refused 19: a document is $of_json"$'\n' examples/front/label.c greeting fr &&
         ends_with 4 "$room/nowhere: No such file or directory"$'\n' "$room/nowhere" greeting fr
 }
@@ -39,6 +45,7 @@ check 'the example in C is built' example_is_built front/label.c label
 [ "$failed" -eq 0 ] || end
 write_site
 check 'the example in C' has_label
+check 'the example in C, by a table of fallbacks' has_next_label
 check 'the example in C, where it has no label' refuses_in_words
 check 'the exchange in C' has_exchanged
 under_valgrind 'the exchange under valgrind' exchange

@@ -17,8 +17,9 @@ typedef struct {
 /* The text of a literal, zero bytes inside too. */
 #define T(literal) ((text){(uint8_t *)(literal), sizeof(literal) - 1})
 #define NO_TEXT ((text){NULL, 0})
-/* Rules with an offer, which is not read before it is asked by. */
-#define RULES(offer) (&(sw_rules){BYTES(offer)})
+/* Rules with an offer and a table of fallbacks, which are not read before they are asked by. */
+#define RULES(offer, table) (&(sw_rules){BYTES(offer), BYTES(table)})
+#define OFFERS(offer) RULES(offer, NO_TEXT)
 
 enum { UNTOUCHED = 0xA5 };
 

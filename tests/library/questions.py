@@ -30,6 +30,7 @@ BAD_ELEMENTS = ["en_US", "de;q=.8", "en;q=1.5", "fr;q=0.1234", "a b", "*-", "de;
 # What a reader is offered: None stands for what the command calls PUBLIC.
 PUBLIC = "*, x;q=0"
 OFFERS = [None, None, "*", PUBLIC, "en, fr", "*, de;q=0", "x, de;q=0.001, en;q=0", ","]
+BAD_FALLBACKS = ["en", "en=", "@none=en", "en=fr=de", "de =fr", "en=é", "zh=*"]
 IDS = ["greeting", "news.title", "a", "größe", "-x", "x" * 128, "m 1"]
 BAD_IDS = ["", "@context", "x" * 129, "a\tb"]
 TEXTS = [
@@ -45,7 +46,7 @@ TEXTS = [
     "x" * 300,
 ]
 
-Question = collections.namedtuple("Question", "call flags texts place site offer")
+Question = collections.namedtuple("Question", "call flags texts place site offer fallbacks")
 Answer = collections.namedtuple("Answer", "status number given offset row count answer")
 # What the command's line of a refusal may have, in the order of an Answer, with its bit of `given`.
 HAS_OFFSET, HAS_ROW, HAS_COUNT = 1, 2, 4
@@ -131,7 +132,21 @@ def default(rng):
     return "" if rng.random() < 0.5 else one_of(rng, TAGS, BAD_TAGS[1:])
 
 
-def question(rng, call, site, offers=(None,)):
+def table(rng):
+    """A table of fallbacks, or None."""
+    if rng.random() < 0.5:
+        return None
+    tags = TAGS[:-1]
+    elements = [f"{it}={rng.choice(tags)}" for it in rng.sample(tags, rng.randint(1, 8))]
+    if rng.random() < 0.05:
+        # (an element again, or one that is none)
+        elements.append(rng.choice([*elements, *BAD_FALLBACKS]))
+    if rng.random() < 0.01:
+        elements.append(" " * 65536)
+    return rng.choice([",", ", ", " ,,\t"]).join(elements)
+
+
+def question(rng, call, site):
     flags = rng.choice([0, 0, EXTENDED, LENIENT, EXTENDED | LENIENT])
     read = field(rng, flags & EXTENDED)
     name, place = one_of(rng, IDS, BAD_IDS), 0
@@ -147,23 +162,23 @@ def question(rng, call, site, offers=(None,)):
     else:
         texts = [name, read] + ([] if call == "filter" else [default(rng)])
         place = rng.choice([0, 0, 0, 1, 2, 63, 64, 2**64 - 1]) if call == "text" else 0
-    offer = None if call == "pick" else rng.choice(offers)
-    return Question(call, flags, tuple(it.encode() for it in texts), place, site, offer)
+    rules = rng.choice(OFFERS), None if call == "filter" else table(rng)
+    return Question(call, flags, tuple(it.encode() for it in texts), place, site, *rules)
 
 
-def questions(count, offers=(None,)):
+def questions(count):
     rng = random.Random(f"{SEED} questions")
     sites = [site_document(rng) for _ in range(5)]
     asked = []
     for at, site in enumerate(sites):
-        asked.append(Question("open", 0, (site,), 0, site, None))
+        asked.append(Question("open", 0, (site,), 0, site, None, None))
         share = count // len(sites) + (at < count % len(sites))
         for call in ("pick", "lookup", "text", "filter", "bundle"):
-            asked += [question(rng, call, site, offers) for _ in range(share)]
+            asked += [question(rng, call, site) for _ in range(share)]
     held = sites[-1]
     for _ in range(count):
         document = spoiled(rng, held)
-        asked.append(Question("open", 0, (document,), 0, document, None))
+        asked.append(Question("open", 0, (document,), 0, document, None, None))
         # (a site that is refused leaves the old one, and one that is not takes its place)
         asked.append(question(rng, "lookup", None))
     return asked
@@ -171,8 +186,10 @@ def questions(count, offers=(None,)):
 
 def line_of(asked):
     texts = [it.hex() or "-" for it in asked.texts] + ["-"] * (3 - len(asked.texts))
-    offer = (asked.offer or "").encode().hex() or "-"
-    return " ".join([asked.call, str(asked.flags), *texts, str(asked.place), offer])
+    # (without an offer all tags are offered, as by NULL)
+    offer = "*" if asked.call == "pick" and asked.offer is None else asked.offer
+    rules = [(it or "").encode().hex() or "-" for it in (offer, asked.fallbacks)]
+    return " ".join([asked.call, str(asked.flags), *texts, str(asked.place), *rules])
 
 
 def run(lexicat, words, document=b""):
@@ -193,8 +210,24 @@ def options(asked, read, dflt):
     words = ["--scheme=extended"] if asked.flags & EXTENDED else []
     words += ["--lenient"] if asked.flags & LENIENT else []
     words += [b"--default=" + dflt] if dflt else []
+    words += [] if asked.fallbacks is None else ["--fallbacks=" + asked.fallbacks]
     words += [] if asked.call == "pick" else ["--offer=" + (PUBLIC if asked.offer is None else asked.offer)]
     return [*words, "--", read]
+
+
+def offered(lexicat, offer, tags):
+    """Those of the tags that filtering by an offer takes."""
+    taken = run(lexicat, ["pick", "--all", "--", offer, *tags])[1].split()[2::2]
+    return [it for it in tags if it == b"@none" or it.lower() in taken]
+
+
+def picked(lexicat, asked, words, tags):
+    """What the command picks: first of all tags, for its refusals, then of those that are offered."""
+    ran = run(lexicat, [*words, *tags])
+    if ran[0] > 1 or asked.offer is None:
+        return ran
+    tags = offered(lexicat, asked.offer, tags)
+    return run(lexicat, [*words, *tags]) if tags else (1, b"nothing\n", "")
 
 
 def wanted(lexicat, asked):
@@ -205,7 +238,8 @@ def wanted(lexicat, asked):
     if asked.call == "pick":
         read, lines, dflt = asked.texts
         tags = re.sub(rb"\n\Z", b"", lines).split(b"\n")
-        status, line, told = run(lexicat, ["pick", *options(asked, read, dflt), *tags])
+        words = ["pick", *options(asked, read, dflt)]
+        status, line, told = picked(lexicat, asked, words, tags)
         if status > 1:
             return refused(status, told)
         how, _, found = line.rstrip(b"\n").partition(b" ")
@@ -239,7 +273,7 @@ def with_sites(asked, all_wanted):
 
 
 def compare(lexicat, answers, count):
-    asked = questions(count, OFFERS)
+    asked = questions(count)
     with concurrent.futures.ThreadPoolExecutor(os.cpu_count()) as pool:
         opens = [it for it in asked if it.call == "open"]
         opened = dict(zip(opens, pool.map(lambda it: wanted(lexicat, it), opens)))
@@ -269,7 +303,7 @@ def compare(lexicat, answers, count):
 
 def main(words):
     if words[0] == "--print":
-        print("\n".join(map(line_of, questions(int(words[1]), OFFERS))))
+        print("\n".join(map(line_of, questions(int(words[1])))))
         return 0
     lexicat, answers, count = words
     return 1 if compare(lexicat, answers, int(count)) else 0

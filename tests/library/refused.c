@@ -55,6 +55,10 @@ typedef struct {
   static void name##_acts(trial *it) { it->status = __VA_ARGS__; } \
   static const refusable name##_case = {#name, name##_acts, kind};
 #define ACT(name, kind, ...) CASE(name, kind, name(__VA_ARGS__))
+/* Rules of questions. */
+#define OFFER T("*;q=0.5, " LONG_TAG)
+#define TABLE T("da=zh-Hans-CN-x-private3, zh-Hans=" LONG_TAG ", en=de")
+#define BOTH RULES(OFFER, TABLE)
 /* Where a call reports that has no answer, and one that has. */
 #define TOLD &it->told
 #define ANSWER it->out, ROOM, TOLD
@@ -76,12 +80,12 @@ ACT(sw_site_missing, ASKS, &it->site, BYTES(T("fr")), ANSWER)
 ACT(sw_site_outdated, ASKS, &it->site, BYTES(T(LONG_TAG)), BYTES(T("en")), ANSWER)
 ACT(sw_site_delta, ASKS, &it->site, BYTES(T(SUMMARY)), ANSWER)
 ACT(sw_site_changes, ASKS, &it->site, &it->other, ANSWER)
-ACT(sw_filter, ASKS, 0, BYTES(T("da, " LONG_TAG ";q=0.8")), BYTES(T("da\n" LONG_TAG "-more\n")), ANSWER)
+ACT(sw_filter, ASKS, 0, OFFERS(OFFER), BYTES(T("da, " LONG_TAG ";q=0.8")), BYTES(T("da\n" LONG_TAG "-more\n")), ANSWER)
 ACT(sw_refusal, FIXED, 18, ANSWER)
 ACT(sw_refusal_code, FIXED, 18, ANSWER)
 ACT(sw_refusal_text, FIXED, 18, ANSWER)
-ACT(sw_pick, ASKS, 0, BYTES(T("da, " LONG_TAG ";q=0.8")), BYTES(T("en\n" LONG_TAG)), BYTES(T(LONG_TAG)), ANSWER)
-CASE(widens, ASKS, sw_pick(SW_WIDEN, BYTES(T("de, zh")), BYTES(T("en\n" LONG_TAG)), BYTES(T("en")), ANSWER))
+ACT(sw_pick, ASKS, 0, BOTH, BYTES(T("da, " LONG_TAG ";q=0.8")), BYTES(T("en\n" LONG_TAG)), BYTES(T(LONG_TAG)), ANSWER)
+CASE(widens, ASKS, sw_pick(SW_WIDEN, NULL, BYTES(T("de, zh")), BYTES(T("en\n" LONG_TAG)), BYTES(T("en")), ANSWER))
 ACT(sw_site_open, EDITS, BYTES(T(OSLO)), &it->site, TOLD)
 
 /* A handle that is not open stays so. (No status is -1.) */
@@ -99,11 +103,10 @@ static void shares(trial *it) {
 }
 
 /* Questions about the message `m`, to the site and to a document where it lies. */
-#define OFFER T("*;q=0.5, " LONG_TAG)
-#define LOOKED_UP RULES(OFFER), 0, BYTES(T("m")), BYTES(T("da, " LONG_TAG)), BYTES(T(LONG_TAG "-more"))
+#define LOOKED_UP BOTH, 0, BYTES(T("m")), BYTES(T("da, " LONG_TAG)), BYTES(T(LONG_TAG "-more"))
 #define TEXT_OF NULL, SW_EXTENDED, BYTES(T("m")), BYTES(T("*-de, zh-*-CN-x-private1-private2, en")), BYTES(T("en")), 0
 #define FILTERED NULL, 0, BYTES(T("m")), BYTES(T("en;q=0.5, zh-hant-cn-x-private1"))
-ACT(sw_rules_new, ASKS, BYTES(OFFER), &it->rules, TOLD)
+ACT(sw_rules_new, ASKS, BYTES(OFFER), BYTES(TABLE), &it->rules, TOLD)
 ACT(sw_site_lookup, ASKS, &it->site, LOOKED_UP, ANSWER)
 ACT(sw_site_text, ASKS, &it->site, TEXT_OF, ANSWER)
 ACT(sw_site_filter, ASKS, &it->site, FILTERED, ANSWER)
@@ -213,7 +216,8 @@ static int others_are_kept(trial *it, const document *paris, const document *osl
     share = written(&it->share);
     if (!equal(&share, paris)) return 0;
   }
-  return equal(&other, oslo) && (it->status != SW_NO_MEMORY || (equal(&given, oslo) && !it->rules.offer));
+  if (!equal(&other, oslo)) return 0;
+  return it->status != SW_NO_MEMORY || (equal(&given, oslo) && !it->rules.offer && !it->rules.fallbacks);
 }
 
 static unsigned refuse_each(unsigned of, int way) {

@@ -17,8 +17,8 @@ shows() { # the library, its header, and the words by which nm lists what it sho
 # The names by which programs are linked with the releases. A release keeps those of the one before,
 # with the calls whose parameters stay as they were.
 has_versions() {
-    local of_2='version pick site_open site_share site_free'
-    local of_3='filter refusal site_new site_put site_delete site_import site_update site_write
+    local of_2='version site_open site_share site_free'
+    local of_3='refusal site_new site_put site_delete site_import site_update site_write
         site_status site_delta site_export site_missing site_outdated site_changes'
     # shellcheck disable=SC2086
     nm --dynamic --defined-only "$library" | sed -n 's/^[0-9a-f]* T sw_//p' | sort |

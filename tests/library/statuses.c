@@ -14,7 +14,9 @@
 /* Each call with room, and what it has to answer. */
 #define ANSWER out, ROOM, &told
 #define PICK(flags, field, tags, dflt, ...) \
-  ROW(ROOM, sw_pick(flags, BYTES(field), BYTES(tags), BYTES(dflt), ANSWER), __VA_ARGS__)
+  PICK_BY(NULL, flags, field, tags, dflt, __VA_ARGS__)
+#define PICK_BY(rules, flags, field, tags, dflt, ...) \
+  ROW(ROOM, sw_pick(flags, rules, BYTES(field), BYTES(tags), BYTES(dflt), ANSWER), __VA_ARGS__)
 #define OPEN(site, document, ...) ROW(0, sw_site_open(BYTES(document), site, &told), __VA_ARGS__)
 #define LOOKUP(site, flags, id, field, dflt, ...) \
   ROW(ROOM, sw_site_lookup(site, NULL, flags, BYTES(id), BYTES(field), BYTES(dflt), ANSWER), __VA_ARGS__)
@@ -24,9 +26,9 @@
   ROW(ROOM, sw_site_filter(site, NULL, flags, BYTES(id), BYTES(field), ANSWER), __VA_ARGS__)
 #define BUNDLE(site, flags, field, dflt, ...) \
   ROW(ROOM, sw_site_bundle(site, NULL, flags, BYTES(field), BYTES(dflt), ANSWER), __VA_ARGS__)
-/* The same question with an offer. */
-#define LOOKUP_BY(offer, site, id, field, dflt, ...) \
-  ROW(ROOM, sw_site_lookup(site, RULES(offer), 0, BYTES(id), BYTES(field), BYTES(dflt), ANSWER), __VA_ARGS__)
+/* The same question by rules. */
+#define LOOKUP_BY(rules, site, id, field, dflt, ...) \
+  ROW(ROOM, sw_site_lookup(site, rules, 0, BYTES(id), BYTES(field), BYTES(dflt), ANSWER), __VA_ARGS__)
 /* The questions to a document where it lies. */
 #define LOOKUP_IN(text, flags, id, field, dflt, ...) \
   ROW(ROOM, sw_text_lookup(BYTES(text), NULL, flags, BYTES(id), BYTES(field), BYTES(dflt), ANSWER), __VA_ARGS__)
@@ -150,7 +152,7 @@ static void rooms(sw_site *site) {
   }
   text m = T("m"), ja = T("ja"), tag = T("de-CH");
   for (size_t room = 0; room <= tag.len; room++)
-    ROW(room, sw_pick(0, BYTES(tag), BYTES(tag), NULL, 0, out, room, &told), answers(SW_FOUND, 0, "de-CH"));
+    ROW(room, sw_pick(0, NULL, BYTES(tag), BYTES(tag), NULL, 0, out, room, &told), answers(SW_FOUND, 0, "de-CH"));
   ROW(7, sw_site_lookup(site, NULL, 0, BYTES(m), BYTES(ja), NULL, 0, out, 7, &told),
       answers(SW_NOTHING, 0, "nothing\n"));
   ROW(4, sw_site_text(site, NULL, 0, BYTES(m), BYTES(T("en")), NULL, 0, 0, out, 4, &told),
@@ -239,31 +241,75 @@ static void offers(void) {
   TEXT_IN(notes, 0, m, note, NO_TEXT, 0, nothing_told(SW_NOTHING));
   FILTER_IN(notes, 0, m, note, answers(SW_NOTHING, 0, "filter 0\n"));
 
-  LOOKUP_BY(star, &site, m, note, NO_TEXT, answers(SW_FOUND, 0, "matched x-note [\"ask Anna\"]\n"));
-  LOOKUP_BY(star, &site, m, T("fr"), note, answers(SW_FOUND, 0, "default x-note [\"ask Anna\"]\n"));
-  ROW(ROOM, sw_site_text(&site, RULES(star), 0, BYTES(m), BYTES(note), NULL, 0, 0, ANSWER),
+  LOOKUP_BY(OFFERS(star), &site, m, note, NO_TEXT, answers(SW_FOUND, 0, "matched x-note [\"ask Anna\"]\n"));
+  LOOKUP_BY(OFFERS(star), &site, m, T("fr"), note, answers(SW_FOUND, 0, "default x-note [\"ask Anna\"]\n"));
+  ROW(ROOM, sw_site_text(&site, OFFERS(star), 0, BYTES(m), BYTES(note), NULL, 0, 0, ANSWER),
       answers(SW_FOUND, 1, "ask Anna"));
-  ROW(ROOM, sw_site_bundle(&site, RULES(star), 0, BYTES(note), NULL, 0, ANSWER),
+  ROW(ROOM, sw_site_bundle(&site, OFFERS(star), 0, BYTES(note), NULL, 0, ANSWER),
       answers(SW_FOUND, 0, "{\"m\":{\"x-note\":\"ask Anna\"},\"n\":{\"x-note\":\"soon\"}}\n"));
-  ROW(ROOM, sw_text_lookup(BYTES(notes), RULES(star), 0, BYTES(m), BYTES(note), NULL, 0, ANSWER),
+  ROW(ROOM, sw_text_lookup(BYTES(notes), OFFERS(star), 0, BYTES(m), BYTES(note), NULL, 0, ANSWER),
       answers(SW_FOUND, 0, "matched x-note [\"ask Anna\"]\n"));
-  ROW(ROOM, sw_text_text(BYTES(notes), RULES(star), 0, BYTES(m), BYTES(note), NULL, 0, 0, ANSWER),
+  ROW(ROOM, sw_text_text(BYTES(notes), OFFERS(star), 0, BYTES(m), BYTES(note), NULL, 0, 0, ANSWER),
       answers(SW_FOUND, 1, "ask Anna"));
-  ROW(ROOM, sw_text_filter(BYTES(notes), RULES(star), 0, BYTES(m), BYTES(note), ANSWER),
+  ROW(ROOM, sw_text_filter(BYTES(notes), OFFERS(star), 0, BYTES(m), BYTES(note), ANSWER),
       answers(SW_FOUND, 0, "filter 1\nx-note 1000 [\"ask Anna\"]\n"));
 
   text only = T("x-note, *;q=0");
-  ROW(ROOM, sw_site_filter(&site, RULES(only), 0, BYTES(m), BYTES(star), ANSWER),
+  ROW(ROOM, sw_site_filter(&site, OFFERS(only), 0, BYTES(m), BYTES(star), ANSWER),
       answers(SW_FOUND, 0, "filter 1\nx-note 1000 [\"ask Anna\"]\n"));
-  LOOKUP_BY(only, &site, m, T("de"), T("de"), answers(SW_NOTHING, 0, "nothing\n"));
-  LOOKUP_BY(only, &site, m, T("de"), T("@none"), answers(SW_FOUND, 0, "default @none [\"\"]\n"));
-  LOOKUP_BY(T(","), &site, m, T("de, x-note"), T("de"), answers(SW_NOTHING, 0, "nothing\n"));
+  LOOKUP_BY(OFFERS(only), &site, m, T("de"), T("de"), answers(SW_NOTHING, 0, "nothing\n"));
+  LOOKUP_BY(OFFERS(only), &site, m, T("de"), T("@none"), answers(SW_FOUND, 0, "default @none [\"\"]\n"));
+  LOOKUP_BY(OFFERS(T(",")), &site, m, T("de, x-note"), T("de"), answers(SW_NOTHING, 0, "nothing\n"));
 
   /* (the offer is refused after the default, and before the field) */
-  LOOKUP_BY(T("de, e n"), &site, m, T("fr"), NO_TEXT, refused_at(9, 4));
-  LOOKUP_BY(T("de;q=2"), &site, m, T("fr, e n"), NO_TEXT, refused_at(9, 0));
-  LOOKUP_BY(T("de;q=2"), &site, m, T("fr"), T("a"), refused(4));
-  ROW(ROOM, sw_text_filter(BYTES(T("{}")), RULES(T("e n")), 0, BYTES(m), BYTES(note), ANSWER), refused_at(9, 0));
+  LOOKUP_BY(OFFERS(T("de, e n")), &site, m, T("fr"), NO_TEXT, refused_at(9, 4));
+  LOOKUP_BY(OFFERS(T("de;q=2")), &site, m, T("fr, e n"), NO_TEXT, refused_at(9, 0));
+  LOOKUP_BY(OFFERS(T("de;q=2")), &site, m, T("fr"), T("a"), refused(4));
+  ROW(ROOM, sw_text_filter(BYTES(T("{}")), OFFERS(T("e n")), 0, BYTES(m), BYTES(note), ANSWER), refused_at(9, 0));
+  sw_site_free(&site);
+}
+
+/* Lookups by a table of fallbacks, and tags that are offered. */
+static void fallbacks(void) {
+  sw_site site = {0};
+  text notes = T(NOTES), m = T("m"), gsw = T("gsw-CH"), table = T("gsw=de, no=nb, en=en-US");
+  wanted german = answers(SW_FOUND, 0, "matched de [\"Hallo\"]\n");
+  const sw_rules *by = RULES(NO_TEXT, table), *few = RULES(T("fr, x"), table);
+  OPEN(&site, notes, nothing_told(SW_FOUND));
+  LOOKUP_BY(by, &site, m, gsw, NO_TEXT, german);
+  LOOKUP_BY(few, &site, m, gsw, T("x-note"), answers(SW_FOUND, 0, "default x-note [\"ask Anna\"]\n"));
+  LOOKUP_BY(by, &site, m, T("gsw, de;q=0"), NO_TEXT, answers(SW_NOTHING, 0, "nothing\n"));
+  LOOKUP_BY(by, &site, m, T("fr"), T("gsw"), answers(SW_NOTHING, 0, "nothing\n"));
+  ROW(ROOM, sw_site_text(&site, by, 0, BYTES(m), BYTES(gsw), NULL, 0, 0, ANSWER), answers(SW_FOUND, 1, "Hallo"));
+  ROW(ROOM, sw_site_bundle(&site, by, 0, BYTES(gsw), NULL, 0, ANSWER),
+      answers(SW_FOUND, 0, "{\"m\":{\"de\":\"Hallo\"}}\n"));
+  ROW(ROOM, sw_site_filter(&site, by, 0, BYTES(m), BYTES(gsw), ANSWER), answers(SW_NOTHING, 0, "filter 0\n"));
+  ROW(ROOM, sw_text_lookup(BYTES(notes), by, 0, BYTES(m), BYTES(gsw), NULL, 0, ANSWER), german);
+  ROW(ROOM, sw_text_text(BYTES(notes), by, 0, BYTES(m), BYTES(gsw), NULL, 0, 0, ANSWER),
+      answers(SW_FOUND, 1, "Hallo"));
+
+  PICK_BY(by, 0, T("no, da"), T("da\nNB"), NO_TEXT, answers(SW_FOUND, 0, "NB"));
+  PICK_BY(by, SW_WIDEN, T("en"), T("en-AU\nen-US"), NO_TEXT, answers(SW_FOUND, 0, "en-US"));
+  PICK_BY(by, 0, T("ja"), T("nb"), T("no"), nothing_told(SW_NOTHING));
+  PICK_BY(by, 0, T("x-a, en;q=0.5"), T("x-a\nen"), NO_TEXT, answers(SW_FOUND, 0, "en"));
+  PICK_BY(few, 0, T("en, fr;q=0.5"), T("en\nfr"), T("en"), answers(SW_FOUND, 0, "fr"));
+  PICK_BY(few, 0, T("ja"), T("en\nfr"), T("en"), nothing_told(SW_NOTHING));
+  PICK_BY(few, 0, T("ja"), T("en\n@none"), T("@none"), answers(SW_FOUND, 1, "@none"));
+  PICK(0, T("x-a"), T("x-a"), NO_TEXT, answers(SW_FOUND, 0, "x-a"));
+
+  /* (refused in this order: the default, the offer, the table, the field, then all tags) */
+  const sw_rules *wrong = RULES(T("fr, e n"), T("a")), *worse = RULES(NO_TEXT, T(" ,en=fr, EN=de"));
+  PICK_BY(wrong, 0, T("e n"), T("e n"), T("a"), refused(4));
+  PICK_BY(wrong, 0, T("e n"), T("e n"), NO_TEXT, refused_at(9, 4));
+  PICK_BY(worse, 0, T("e n"), T("e n"), NO_TEXT, refused_at(31, 9));
+  PICK_BY(few, 0, T("fr, e n"), T("e n"), NO_TEXT, refused_at(9, 4));
+  PICK_BY(few, 0, T("fr"), T("en\nen-"), NO_TEXT, refused_at(3, 3));
+  PICK_BY(worse, 8, T("e n"), T("e n"), NO_TEXT, nothing_told(SW_USAGE));
+  LOOKUP_BY(worse, &site, T("@"), T("e n"), NO_TEXT, refused(10));
+  LOOKUP_BY(worse, &site, m, T("e n"), T("a"), refused(4));
+  LOOKUP_BY(worse, &site, m, T("e n"), NO_TEXT, refused_at(31, 9));
+  LOOKUP_BY(wrong, &site, m, T("e n"), NO_TEXT, refused_at(9, 4));
+  ROW(ROOM, sw_text_lookup(BYTES(T("{}")), worse, 0, BYTES(m), BYTES(m), NULL, 0, ANSWER), refused_at(31, 9));
   sw_site_free(&site);
 }
 
@@ -271,23 +317,28 @@ static void offers(void) {
 static void made_rules(void) {
   sw_site site = {0};
   sw_rules rules = {0}, zeros = {0};
-  text m = T("m"), note = T("x-note"), commas = {block(65536), 65536};
+  text m = T("m"), note = T("x-note"), table = T("gsw=de"), commas = {block(65536), 65536};
   wanted shown = answers(SW_FOUND, 0, "matched x-note [\"ask Anna\"]\n"), hidden = answers(SW_NOTHING, 0, "nothing\n");
   memset(commas.bytes, ',', commas.len);
   OPEN(&site, T(NOTES), nothing_told(SW_FOUND));
-  ROW(0, sw_rules_new(BYTES(T("fr, e n")), &rules, &told), refused_at(9, 4));
-  HOLDS(!rules.offer && !rules.offer_len);
-  ROW(0, sw_rules_new(BYTES(T("*")), &rules, &told), nothing_told(SW_FOUND));
-  ROW(0, sw_rules_new(BYTES(commas), &rules, &told), refused(8));
+  ROW(0, sw_rules_new(BYTES(T("fr, e n")), BYTES(table), &rules, &told), refused_at(9, 4));
+  ROW(0, sw_rules_new(BYTES(T("fr")), BYTES(T("en=fr, EN=de")), &rules, &told), refused_at(31, 7));
+  HOLDS(!rules.offer && !rules.offer_len && !rules.fallbacks && !rules.fallbacks_len);
+  ROW(0, sw_rules_new(BYTES(T("*")), BYTES(table), &rules, &told), nothing_told(SW_FOUND));
+  ROW(0, sw_rules_new(BYTES(commas), NULL, 0, &rules, &told), refused(8));
+  ROW(0, sw_rules_new(NULL, 0, BYTES(commas), &rules, &told), refused(8));
+  ROW(0, sw_rules_new(BYTES(T("e n")), BYTES(T("a")), &rules, &told), refused_at(9, 0));
+  LOOKUP_BY(&rules, &site, m, T("gsw-CH"), NO_TEXT, answers(SW_FOUND, 0, "matched de [\"Hallo\"]\n"));
   ROW(ROOM, sw_site_lookup(&site, &rules, 0, BYTES(m), BYTES(note), NULL, 0, ANSWER), shown);
   ROW(ROOM, sw_text_lookup(BYTES(T(NOTES)), &rules, 0, BYTES(m), BYTES(note), NULL, 0, ANSWER), shown);
   ROW(ROOM, sw_site_lookup(&site, &zeros, 0, BYTES(m), BYTES(note), NULL, 0, ANSWER), hidden);
   /* (not by its macro, which lets NULL be rules) */
   ROW(ROOM, (sw_site_lookup)(&site, &zeros, 0, BYTES(m), BYTES(note), NULL, 0, ANSWER), hidden);
   sw_rules_free(&rules);
-  HOLDS(!rules.offer_len);
+  HOLDS(!rules.offer_len && !rules.fallbacks_len);
+  LOOKUP_BY(&rules, &site, m, T("gsw-CH"), NO_TEXT, hidden);
   ROW(ROOM, sw_site_lookup(&site, &rules, 0, BYTES(m), BYTES(note), NULL, 0, ANSWER), hidden);
-  ROW(0, sw_rules_new(NULL, 0, &rules, &told), nothing_told(SW_FOUND));
+  ROW(0, sw_rules_new(NULL, 0, NULL, 0, &rules, &told), nothing_told(SW_FOUND));
   free(commas.bytes);
   sw_site_free(&site);
 }
@@ -307,6 +358,7 @@ int main(void) {
   HOLDS(!site.held);
   shares();
   offers();
+  fallbacks();
   made_rules();
   printf("statuses: %u rows, %u wrong\n", rows, faults);
   return faults != 0;
