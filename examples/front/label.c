@@ -1,12 +1,12 @@
 /* Prints the text of a message for a reader.
  *
- * usage: label SITE.json ID FIELD [DEFAULT]
+ * usage: label SITE.json ID FIELD [DEFAULT [FALLBACKS]]
  *
  *     cc label.c -o label $(pkg-config --cflags --libs silkwaram)
  *     ./label site.json greeting 'fr-CA, en;q=0.5' en
  *
  * FIELD is what the reader's Accept-Language header holds, or * if there is none. A reader who excludes the default too
- * (*;q=0) gets it nevertheless.
+ * (*;q=0) gets it nevertheless. FALLBACKS says which language is next to which, as 'zh-TW=zh-Hant, no=nb'.
  *
  * Ends with 0 if a text was printed, 1 if there is none for this reader, 2 for wrong usage, 3 if something is refused,
  * 4 if the file cannot be read or the text cannot be written, 5 if memory runs out. */
@@ -14,6 +14,9 @@
 #include <stdio.h>
 #include <stdlib.h>
 #include <string.h>
+
+/* What is offered, which is all but private use, and the fallbacks. */
+static sw_rules rules;
 
 static uint8_t *read_file(const char *name, size_t *len) {
   FILE *from = fopen(name, "rb");
@@ -46,7 +49,7 @@ static void print_refusal(const sw_told *refused) {
 /* Asks for the first text of the label: without what is malformed of the field, and a language finds its regions. */
 static int32_t ask(sw_site *site, const char *id, const char *field, const char *dflt, uint8_t *out, size_t room,
                    sw_told *told) {
-  return sw_site_text(site, NULL, SW_LENIENT | SW_WIDEN, bytes(id), strlen(id), bytes(field), strlen(field),
+  return sw_site_text(site, &rules, SW_LENIENT | SW_WIDEN, bytes(id), strlen(id), bytes(field), strlen(field),
                       bytes(dflt), strlen(dflt), 0, out, room, told);
 }
 
@@ -66,8 +69,8 @@ static int32_t print_text(sw_site *site, const char *id, const char *field, cons
 }
 
 int main(int count, char **words) {
-  if (count < 4 || count > 5) {
-    fprintf(stderr, "usage: label SITE.json ID FIELD [DEFAULT]\n");
+  if (count < 4 || count > 6) {
+    fprintf(stderr, "usage: label SITE.json ID FIELD [DEFAULT [FALLBACKS]]\n");
     return SW_USAGE;
   }
   size_t len;
@@ -80,7 +83,8 @@ int main(int count, char **words) {
   sw_told told = {0};
   int32_t status = sw_site_open(document, len, &site, &told);
   free(document);
-  const char *dflt = count == 5 ? words[4] : "";
+  const char *dflt = count > 4 ? words[4] : "", *fallbacks = count > 5 ? words[5] : "";
+  if (status == SW_FOUND) status = sw_rules_new(NULL, 0, bytes(fallbacks), strlen(fallbacks), &rules, &told);
   if (status == SW_FOUND) status = print_text(&site, words[2], words[3], dflt, &told);
   if (status == SW_NOTHING) status = print_text(&site, words[2], "*", dflt, &told);
   if (told.number) print_refusal(&told);

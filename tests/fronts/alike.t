@@ -1,7 +1,8 @@
 #!/usr/bin/env bash
-# Asks every front end 500 headers over one site, by its defaults alone: the middleware for WSGI,
-# ASGI, Django and Node, the package for PHP, the module for nginx, and the example in C. Each has to
-# answer as `lexicat` does by the rules that asked.py states. The headers are made of SEED.
+# Asks every front end 500 headers over one site, by its defaults alone, and once more by a table of
+# fallbacks: the middleware for WSGI, ASGI, Django and Node, the package for PHP, the module for
+# nginx, and the example in C. Each has to answer as `lexicat` does by the rules that asked.py
+# states. The headers are made of SEED.
 #
 # It takes build/lib and build/browser, which `make library` and `make browser` build, and
 # build/lexicat, or the command that LEXICAT names. A front end without its tools is skipped.
@@ -14,17 +15,29 @@ archive=${SILKWARAM_LIB:-$PWD/build/lib}/libsilkwaram.a
 export PYTHONPATH=$PWD/bindings/python/src
 needs "$lexicat" python3
 
-is_alike() { # a front end, and the command that asks it
-    local name=$1
+# What is asked, without a table and by one.
+rounds=("$room/defaults" "$room/table")
+table='zh-TW=zh-Hant, da=nb, nb=fr-CA, es-419=pt-BR, no=nb'
+
+is_asked() {
+    mkdir "${rounds[@]}" && python3 "$own_fronts/asked.py" "$lexicat" "${rounds[0]}" &&
+        python3 "$own_fronts/asked.py" "$lexicat" "${rounds[1]}" "$table"
+}
+
+is_alike() { # a front end, and the command that asks it what a folder has
+    local name=$1 folder
     shift
-    "$@" > "$room/$name.json" && python3 "$own_fronts/asked.py" --compare "$room" "$room/$name.json"
+    for folder in "${rounds[@]}"; do
+        "$@" "$folder" > "$folder/$name.json" &&
+            python3 "$own_fronts/asked.py" --compare "$folder" "$folder/$name.json" || return
+    done
 }
 
 try_python() { # what is tried, the kind, and a module that it wants
     local python
     for python in python3 /usr/bin/python3; do
         if "$python" -c "import $3" 2> /dev/null; then
-            check "$1" is_alike "$2" "$python" "$own_fronts/ask.py" "$2" "$room"
+            check "$1" is_alike "$2" "$python" "$own_fronts/ask.py" "$2"
             return
         fi
     done
@@ -35,33 +48,38 @@ of_node() { # the package, as the modules of a program find it
     mkdir -p "$room/app/node_modules"
     cp -r build/browser "$room/app/node_modules/silkwaram"
     cp "$own_fronts/in_node.mjs" "$room/app"
-    is_alike node node "$room/app/in_node.mjs" "$room"
+    is_alike node node "$room/app/in_node.mjs"
 }
 
 has_ffi() { is_there php && php -m | grep -qx FFI; }
 
 of_c() {
     "${CC:-cc}" -std=c99 -Iinclude examples/front/label.c -o "$room/label" "$archive" &&
-        is_alike c python3 "$own_fronts/ask.py" program "$room" "$room/label"
+        is_alike c python3 "$own_fronts/ask.py" program "$room/label"
 }
 
 # (server.sh has a room of its own, which it removes with its servers)
 of_nginx() (
-    local asked=$room tags
+    local folders=("${rounds[@]}") edits=(-e '/TABLE/d' -e "s/TABLE/$table/") at tags
     room=$(mktemp -d)
-    cp "$asked"/{asked,site}.json "$room"
     # shellcheck disable=SC1091
     . bindings/nginx/tests/server.sh
     has_module || exit 1
     tags=$(python3 -c 'import json, sys; print(*json.load(open(sys.argv[1]))["tags"])' \
-        "$room/asked.json")
-    sed "s/TAGS/$tags/" "$own_fronts/nginx.conf" | configured "$room/alike.conf"
-    started "$room/alike.conf" || exit 1
-    is_alike nginx python3 "$own_fronts/ask.py" http "$room" "127.0.0.1:$port"
+        "${folders[0]}/asked.json")
+    cp "${folders[0]}/site.json" "$room"
+    for at in 0 1; do
+        rounds=("${folders[at]}")
+        sed -e "s/TAGS/$tags/" "${edits[@]:2 * at:2}" "$own_fronts/nginx.conf" |
+            configured "$room/alike.conf"
+        started "$room/alike.conf" &&
+            is_alike nginx python3 "$own_fronts/ask.py" http "127.0.0.1:$port" &&
+            stopped || exit 1
+    done
 )
 
 says_seed
-check 'lexicat answers' python3 "$own_fronts/asked.py" "$lexicat" "$room"
+check 'lexicat answers' is_asked
 [ "$failed" -eq 0 ] || end
 if [ -e "$SILKWARAM_LIBRARY" ]; then
     try_python 'WSGI' wsgi wsgiref
@@ -76,7 +94,7 @@ else
     lacks 'Node' 'Node, or no build/browser'
 fi
 if has_ffi && [ -e "$SILKWARAM_LIBRARY" ]; then
-    check 'PHP' is_alike php php -d ffi.enable=true "$own_fronts/in_php.php" "$room"
+    check 'PHP' is_alike php php -d ffi.enable=true "$own_fronts/in_php.php"
 else
     lacks 'PHP' 'PHP with FFI, or no library'
 fi

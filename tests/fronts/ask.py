@@ -2,8 +2,8 @@
 """Asks a front end what asked.py has in a folder.
 
 usage: ask.py wsgi | asgi | django FOLDER     the middleware of the package for Python
-       ask.py http FOLDER ADDRESS             a server, for /language, /label and /few
-       ask.py program FOLDER PROGRAM          a program: PROGRAM SITE ID HEADER DEFAULT
+       ask.py http ADDRESS FOLDER             a server, for /language, /label and /few
+       ask.py program PROGRAM FOLDER          a program: PROGRAM SITE ID HEADER DEFAULT FALLBACKS
 
 The answers go to standard output, as asked.py compares them.
 """
@@ -17,14 +17,19 @@ import sys
 from wsgiref.util import setup_testing_defaults
 
 
+def rules_of(asked):
+    return {name: asked[name] for name in ("default", "fallbacks")}
+
+
 def of_wsgi(asked, site):
     from silkwaram.web import LABEL, LANGUAGE, WSGILanguageMiddleware
 
     def application(environ, _):
         return environ
 
-    of_tags = WSGILanguageMiddleware(application, tags=asked["tags"], default=asked["default"])
-    of_site = WSGILanguageMiddleware(application, path=site, default=asked["default"])
+    rules = rules_of(asked)
+    of_tags = WSGILanguageMiddleware(application, tags=asked["tags"], **rules)
+    of_site = WSGILanguageMiddleware(application, path=site, **rules)
 
     def given(middleware, header):
         environ = {} if header is None else {"HTTP_ACCEPT_LANGUAGE": header}
@@ -50,8 +55,9 @@ def of_asgi(asked, site):
     async def application(scope, receive, send):
         given.update(scope)
 
-    of_tags = ASGILanguageMiddleware(application, tags=asked["tags"], default=asked["default"])
-    of_site = ASGILanguageMiddleware(application, path=site, default=asked["default"])
+    rules = rules_of(asked)
+    of_tags = ASGILanguageMiddleware(application, tags=asked["tags"], **rules)
+    of_site = ASGILanguageMiddleware(application, path=site, **rules)
 
     async def answer(header):
         lines = [] if header is None else [(b"accept-language", header.encode("latin-1"))]
@@ -93,6 +99,7 @@ def of_django(asked, site):
         LANGUAGES=[(it.lower(), it) for it in asked["tags"]],
         LOCALE_PATHS=[f"{folder}/locale"],
         ROOT_URLCONF="urls_of_none",
+        SILKWARAM_FALLBACKS=asked["fallbacks"],
         SILKWARAM_SITE=site,
         USE_I18N=True,
     )
@@ -123,7 +130,7 @@ def of_django(asked, site):
     for header in asked["headers"]:
         words = {} if header is None else {"HTTP_ACCEPT_LANGUAGE": header}
         middleware(RequestFactory().get("/", **words))
-    return {"answers": answers, "fallbacks": True}
+    return {"answers": answers, "own": True}
 
 
 def of_http(asked, _, address):
@@ -152,6 +159,7 @@ def of_program(asked, site, program):
     def said(name, header):
         field = "*" if header is None else header
         words = [program, site, name, field.encode("latin-1"), asked["default"]]
+        words.append(asked["fallbacks"] or "")
         return subprocess.run(words, stdout=subprocess.PIPE, check=True).stdout.decode().strip()
 
     return {"answers": [
@@ -164,10 +172,11 @@ KINDS = {
 }
 
 
-def main(kind, folder, *rest):
+def main(kind, *rest):
+    *more, folder = rest
     with open(f"{folder}/asked.json", encoding="utf-8") as it:
         asked = json.load(it)
-    json.dump(KINDS[kind](asked, f"{folder}/site.json", *rest), sys.stdout)
+    json.dump(KINDS[kind](asked, f"{folder}/site.json", *more), sys.stdout)
 
 
 if __name__ == "__main__":

@@ -1,8 +1,9 @@
 #!/usr/bin/env python3
 """What all front ends are asked, and what they have to answer.
 
-usage: asked.py LEXICAT FOLDER
-           writes site.json and asked.json there: 500 headers, made of SEED, each with the answers
+usage: asked.py LEXICAT FOLDER [TABLE]
+           writes site.json and asked.json there: 500 headers, made of SEED, each with the answers,
+           by a table of fallbacks or without one
        asked.py --compare FOLDER ANSWERS.json
            compares the answers of a front end, a list of one object for each header
 
@@ -61,7 +62,7 @@ def headers():
 
 
 def has_own_fallback(header):
-    """Whether fallbacks from a region to its language's other regions and scripts may matter."""
+    """Whether own fallbacks from a region to other regions and scripts of its language matter."""
     header = (header or "").lower()
     excluded = re.findall(r"([a-z0-9-]+) *; *q=0(?![.0-9])", header)
     tags = [it.lower() for it in TAGS]
@@ -83,14 +84,16 @@ def site():
 
 
 class Command:
-    def __init__(self, lexicat, document):
+    def __init__(self, lexicat, document, table):
         self.lexicat, self.document = lexicat, document
+        self.how = ["--lenient", "--widen", "--default", DEFAULT]
+        self.how += ["--fallbacks", table] if table else []
 
     def run(self, header, *words):
         """What the command prints for a header; None if that is nothing."""
         # (an argument has to be UTF-8, and a letter that is not ASCII is in no range either)
         field = "*" if header is None else header.replace("\xe9", "_")
-        asked = [self.lexicat, *words[:1], "--lenient", "--widen", "--default", DEFAULT, *words[1:]]
+        asked = [self.lexicat, *words[:1], *self.how, *words[1:]]
         at = asked.index("FIELD")
         got = subprocess.run([*asked[:at], "--", field, *asked[at + 1:]], input=self.document,
                              capture_output=True, check=False)
@@ -118,12 +121,12 @@ class Command:
         }
 
 
-def write(lexicat, folder):
+def write(lexicat, folder, table=None):
     new = subprocess.run([lexicat, "new", "--site", "paris"], stdout=subprocess.PIPE, check=True)
     both = new.stdout + json.dumps(site()).encode()
     made = subprocess.run([lexicat, "import", "--now", "1"], input=both, stdout=subprocess.PIPE,
                           check=True)
-    command = Command(lexicat, made.stdout)
+    command = Command(lexicat, made.stdout, table)
     asked = headers()
     with concurrent.futures.ThreadPoolExecutor(os.cpu_count()) as pool:
         wanted = list(pool.map(command.answers, asked))
@@ -131,8 +134,8 @@ def write(lexicat, folder):
         it.write(made.stdout)
     with open(f"{folder}/asked.json", "w", encoding="utf-8") as it:
         json.dump({
-            "tags": TAGS, "default": DEFAULT, "headers": asked, "wanted": wanted,
-            "fallbacks": [has_own_fallback(it) for it in asked],
+            "tags": TAGS, "default": DEFAULT, "fallbacks": table, "headers": asked,
+            "wanted": wanted, "own": [has_own_fallback(it) for it in asked],
         }, it)
     different = {json.dumps(it) for it in wanted}
     print(f"{len(asked)} headers, {len(different)} different answers")
@@ -149,8 +152,8 @@ def compare(folder, path):
     if len(answers) != len(asked["headers"]):
         sys.exit(f"{len(answers)} answers to {len(asked['headers'])} headers")
     for header, got, wanted, is_own in zip(asked["headers"], answers, asked["wanted"],
-                                           asked["fallbacks"]):
-        if is_own and given.get("fallbacks"):
+                                           asked["own"]):
+        if is_own and given.get("own"):
             continue
         count += 1
         expected = {name: wanted[name] for name in got}

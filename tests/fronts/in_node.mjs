@@ -24,7 +24,8 @@ function answerOf(middleware, header) {
 }
 
 function answersOver(site) {
-  const middleware = languages({ site, tags: asked.tags, default: asked.default });
+  const { tags, fallbacks } = asked;
+  const middleware = languages({ site, tags, default: asked.default, fallbacks });
   return asked.headers.map((it) => answerOf(middleware, it));
 }
 

@@ -20,7 +20,7 @@ $asked = json_decode(file_get_contents("$argv[1]/asked.json"), true);
 function answer(Questions $site, array $asked, ?string $header): array
 {
     $field = $header === null ? null : iconv('UTF-8', 'ISO-8859-1', $header);
-    $reader = new Reader($field, $asked['default']);
+    $reader = new Reader($field, $asked['default'], fallbacks: $asked['fallbacks'] ?? '');
     return [
         'language' => strtolower($reader->language($asked['tags'])),
         'label' => $reader->label($site, 'all')['texts'][0],
