@@ -9,11 +9,22 @@ static sw_site site;
 static uint8_t out[ROOM];
 static sw_told told;
 
-static void pick(void) {
-  if (sw_pick(0, BYTES("da, en-GB;q=0.8, en;q=0.7"), BYTES("en\nfr\nde\nes\nit\npt-BR\nja\nzh-Hant"), NULL, 0, out,
-              ROOM, &told))
+/* (of 20 elements) */
+#define TABLE                                                                                                      \
+  "no=nb, nn=nb, da=nb, iw=he, in=id, zh-TW=zh-Hant, zh-HK=zh-Hant-HK, zh-MO=zh-Hant-HK, zh-CN=zh-Hans, "           \
+  "zh-SG=zh-Hans, en-AU=en-001, en-NZ=en-001, en-IN=en-001, en-001=en-GB, en=en-US, es-MX=es-419, es-AR=es-419, " \
+  "pt-AO=pt-PT, pt-MZ=pt-PT, sr-ME=sr-Latn"
+static const sw_rules by_table = {(const uint8_t *)"*", 1, BYTES(TABLE)};
+
+static void pick_by(const sw_rules *rules) {
+  if (sw_pick(0, rules, BYTES("da, en-GB;q=0.8, en;q=0.7"), BYTES("en\nfr\nde\nes\nit\npt-BR\nja\nzh-Hant"), NULL, 0,
+              out, ROOM, &told))
     exit(1);
 }
+
+static void pick(void) { pick_by(NULL); }
+
+static void pick_by_table(void) { pick_by(&by_table); }
 
 #define QUESTION &site, NULL, 0, BYTES("message-777"), BYTES("de-CH, fr;q=0.5"), BYTES("en")
 
@@ -33,6 +44,7 @@ int main(int count, char **words) {
   if (sw_site_open(text, len, &site, &told)) return 1;
   double took = now() - start;
   printf("| `sw_pick` from C | %.0f |\n", least_of(pick, CALLS));
+  printf("| `sw_pick` from C, by a table of 20 fallbacks | %.0f |\n", least_of(pick_by_table, CALLS));
   printf("| `sw_site_lookup` from C, 16,000 cells | %.0f |\n", least_of(lookup, CALLS));
   printf("| `sw_site_text` from C, 16,000 cells | %.0f |\n", least_of(label_text, CALLS));
   printf("| `sw_site_open` from C, 16,000 cells | %.0f |\n", took);

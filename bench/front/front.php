@@ -8,6 +8,10 @@ require __DIR__ . '/../../bindings/php/autoload.php';
 
 const FIELD = 'da, en-GB;q=0.8, en;q=0.7';
 const TAGS = ['en', 'fr', 'de', 'es', 'it', 'pt-BR', 'ja', 'zh-Hant'];
+// (of 20 elements)
+const TABLE = 'no=nb, nn=nb, da=nb, iw=he, in=id, zh-TW=zh-Hant, zh-HK=zh-Hant-HK, zh-MO=zh-Hant-HK, zh-CN=zh-Hans, '
+    . 'zh-SG=zh-Hans, en-AU=en-001, en-NZ=en-001, en-IN=en-001, en-001=en-GB, en=en-US, es-MX=es-419, es-AR=es-419, '
+    . 'pt-AO=pt-PT, pt-MZ=pt-PT, sr-ME=sr-Latn';
 
 /** The processor time of this process. */
 function now(): float
@@ -33,6 +37,8 @@ function measure(string $what, callable $call, int $calls): void
 if (extension_loaded('ffi')) {
     $site = Site::open(file_get_contents($argv[1]));
     measure('`sw_pick` from PHP, by FFI', fn () => Tags::pick(FIELD, TAGS), 20000);
+    $call = fn () => Tags::pick(FIELD, TAGS, fallbacks: TABLE);
+    measure('`sw_pick` from PHP, by FFI, by a table of 20 fallbacks', $call, 20000);
     $call = fn () => $site->lookup('message-777', 'de-CH, fr;q=0.5', 'en');
     measure('`sw_site_lookup` from PHP, by FFI, 16,000 cells', $call, 20000);
 } else {
