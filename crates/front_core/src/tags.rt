@@ -31,8 +31,10 @@ pub(crate) fn read_lines<'a>(
     ensures { MatchResult result (λ offered. AreOffered (items_of offer.entry) (lines_of tags.now)
         (texts_of offered.names.items) offered.langs.items) (RefusesTags (lines_of tags.now)) }
 {
-    let mut names = Vec::new(alloc);
-    let mut langs = Vec::new(alloc);
+    // (most tags have three bytes or more, and end with one)
+    let room = tags.len() / 4;
+    let mut names = Vec::with_capacity(alloc, room)?;
+    let mut langs = Vec::with_capacity(alloc, room)?;
     for line in Lines::new(tags) {
         let lang = Lang::parse(alloc, line)?;
         if offer.offers(&lang) {

@@ -5,8 +5,8 @@ use Rattle.front_core.specs.inner.TagFilter.{texts_of}
 use Rattle.front_core.proofs.TagsLemmas.{read_on, read_over}
 use Rattle.front_core.proofs.tags.read_lines.Goals as goal
 
-pub loop-line-preserved-in-Continue-branch-3 : goal.loop-line-preserved-in-Continue-branch-3
-loop-line-preserved-in-Continue-branch-3 c =
+pub loop-line-preserved-in-Continue-branch-5 : goal.loop-line-preserved-in-Continue-branch-5
+loop-line-preserved-in-Continue-branch-5 c =
     let items = items_of c.args.offer in
     let offered : is_offered items c.in_ok-lang.lang ≡ true = search rules in
     read_on items _ _ _ _ _ _ _ _ _ c.in-Some.ensures.steps
