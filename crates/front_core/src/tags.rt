@@ -31,8 +31,8 @@ pub(crate) fn read_lines<'a>(
     ensures { MatchResult result (λ offered. AreOffered (items_of offer.entry) (lines_of tags.now)
         (texts_of offered.names.items) offered.langs.items) (RefusesTags (lines_of tags.now)) }
 {
-    // (most tags have three bytes or more, and end with one)
-    let room = tags.len() / 4;
+    // (a line has three bytes, mostly)
+    let room = tags.len() / 3;
     let mut names = Vec::with_capacity(alloc, room)?;
     let mut langs = Vec::with_capacity(alloc, room)?;
     for line in Lines::new(tags) {
