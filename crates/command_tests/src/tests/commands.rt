@@ -20,7 +20,7 @@ const WORDS: &str = r#"0|pick zh-Hant-CN-x-private1-private2 zh-Hant en|-|matche
 0|--version|-|lexicat 0.4.0
 3|filter --id @m en;q=2|-|refused 10: message id
 4|put --now +5 --id m --lang @none a b|-|refused 24: read fault
-2|explain 31|-|~--help
+2|explain 32|-|~--help
 2|status a|-|~Usage: lexicat status < SITE"#;
 
 #[test]

@@ -36,13 +36,16 @@ fn assert_line(rt: &impl Abort, answer: Result<Answer, FrontFault>, line: &str, 
 fn lines_of_tags(rt: HostRuntime) {
     let alloc = rt.alloc();
     let field = widened(Scheme::Extended, "de-*-DE");
-    let picked = pick(alloc, field, None, b"de-Latn-DE");
+    let picked = pick(alloc, ALL, field, None, b"de-Latn-DE");
     assert_eq!(rt; picked, Ok(Picked::Matched(b"de-Latn-DE")));
     let exact = Field {
         widening: Widening::Off,
         ..widened(Scheme::Basic, "en")
     };
-    assert_eq!(rt; pick(alloc, exact, None, b"en-US\nfr"), Ok(Picked::Nothing));
+    assert_eq!(rt;
+        pick(alloc, ALL, exact, None, b"en-US\nfr"),
+        Ok(Picked::Nothing)
+    );
 }
 
 #[test]
