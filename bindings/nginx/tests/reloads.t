@@ -44,7 +44,11 @@ is_kept() {
     [ ! -s "$room/after" ]
 }
 
-is_refused() { [ "$(grep -c '\[emerg\]' "$room/error.log")" -gt "$1" ]; } # once more
+# Once more than before. (The signal is sent again, as one that comes during a reload may be lost.)
+is_refused() {
+    kill -HUP "${servers[-1]}"
+    [ "$(grep -c '\[emerg\]' "$room/error.log")" -gt "$1" ]
+}
 
 # A state that is refused leaves the one that is there.
 keeps() {
@@ -52,10 +56,9 @@ keeps() {
     sed -i 's/^silkwaram_tags .*/silkwaram_tags en_US;/' "$room/nginx.conf"
     ! server -c "$room/nginx.conf" -s reload || return 1
     before=$(grep -c '\[emerg\]' "$room/error.log")
-    kill -HUP "${servers[-1]}"
-    until_so is_refused "$before" || return 1
+    until_so is_refused "$before" || { echo 'it is not refused'; return 1; }
     asked=0
-    until_so is_kept && echo
+    until_so is_kept || { cat "$room/after"; return 1; }
 }
 
 check 'the module is there' has_module
