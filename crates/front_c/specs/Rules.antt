@@ -8,7 +8,8 @@ use Rattle.front_core.specs.Offering.{HasOffer, Items, Offers, RefusesOffer, Tex
 use Rattle.front_core.specs.Preferences.{HasTable}
 use Rattle.front_c.specs.declared.rules.Rules.{Rules}
 
--- what is offered: by this field, or all but private use if it has no bytes, or all by "*"
+-- what is offered: all languages but those of private use if the field has no bytes; all by "*",
+-- which reads as just these items; and else what the field reads as
 abbrev pub offer_of : List ℕ → Offers
 offer_of [] = Items public_items
 offer_of (byte ∷ bytes) =

@@ -39,7 +39,7 @@ abbrev pub IsTagFilter : FieldText → List Text → Answer → Type 0
 IsTagFilter field tags answer = (langs : List Text) × (picks : List Pick)
     × AreTaken field tags langs picks × ShowsTaken tags picks answer
 
--- the same of the tags that are offered; each tag spells a language
+-- each tag spells a language, and these lines are of those that are offered
 abbrev pub IsOfferedFilter : Offers → FieldText → List Text → Answer → Type 0
 IsOfferedFilter offers field tags answer = AreLangs tags
     × ((items : List Item) × IsOffer offers items

@@ -52,7 +52,7 @@ IsPickedTag field word tags (picked.Default tag) = (lang : List ℕ)
     × IsPicked field word tags (Default lang) × IsFirst (λ t. SpellsLang t lang) tags tag.now
 IsPickedTag field word tags picked.Nothing = IsPicked field word tags Nothing
 
--- the first of those that are offered; each tag spells a language
+-- each tag spells a language, and this is picked among those that are offered
 abbrev pub IsPickedOffered : Offers → FieldText → Option Text → List Text → Picked → Type 0
 IsPickedOffered offers field word tags picked = AreLangs tags
     × ((items : List Item) × IsOffer offers items

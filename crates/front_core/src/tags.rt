@@ -31,7 +31,7 @@ pub(crate) fn read_lines<'a>(
     ensures { MatchResult result (λ offered. AreOffered (items_of offer.entry) (lines_of tags.now)
         (texts_of offered.names.items) offered.langs.items) (RefusesTags (lines_of tags.now)) }
 {
-    // (a line has three bytes, mostly)
+    // (a line mostly has three bytes or more: two letters and a line feed)
     let room = tags.len() / 3;
     let mut names = Vec::with_capacity(alloc, room)?;
     let mut langs = Vec::with_capacity(alloc, room)?;
